@@ -1,0 +1,40 @@
+-- The small examples of 01 that speak of sums and of joining, by computation. Assumes nothing.
+use mathlib.Core.Path.{_≡_, refl}
+use mathlib.Core.List.{List, [], _∷_}
+use Prim.Native.Nat.{ℕ}
+use Rattle.crc.specs.Sum.{start, bitStep, bitSteps, byteStep, sumFrom, sumOf, carried}
+use Rattle.crc.specs.Joining.{Answer, done, joinedOf, joinOf}
+
+pub P1 : sumOf [] ≡ 0xFFFF
+unfolding sumOf sumFrom
+P1 = refl
+
+pub P2 : sumOf (0xFF ∷ []) ≡ 0x00FF
+unfolding sumOf sumFrom byteStep bitSteps bitStep
+P2 = refl
+
+pub P3 : sumOf (0xFF ∷ 0xFF ∷ []) ≡ 0x0000
+unfolding sumOf sumFrom byteStep bitSteps bitStep
+P3 = refl
+
+pub P4 : sumOf (0x00 ∷ []) ≡ 0x0F87
+unfolding sumOf sumFrom byteStep bitSteps bitStep
+P4 = refl
+
+pub P5 : sumOf (0x41 ∷ 0x11 ∷ 0x80 ∷ []) ≡ 0x6DD8
+unfolding sumOf sumFrom byteStep bitSteps bitStep
+P5 = refl
+
+pub P8 : joinOf (record { sum = 0x00FF; len = 1 }) (record { sum = 0x00FF; len = 1 }) ≡ done (record { sum = 0x0000; len = 2 })
+unfolding joinOf joinedOf carried byteStep bitSteps bitStep
+P8 = refl
+
+-- Joining is defined for a zero length with any sum, by the same formula.
+pub zero-length : joinedOf (record { sum = 0x1234; len = 0 }) (record { sum = 0x5678; len = 0 }) ≡ record { sum = 0xBBB3; len = 0 }
+unfolding joinedOf carried
+zero-length = refl
+
+-- One byte too many is refused, and one fewer is not.
+pub longest-joined : joinOf (record { sum = 0xFFFF; len = 0xFFFFFFFF }) (record { sum = 0xFFFF; len = 1 }) .number ≡ 36
+unfolding joinOf
+longest-joined = refl

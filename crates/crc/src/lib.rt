@@ -1,0 +1,129 @@
+// The CRC of the Nanosatellite Protocol (ICD 10.8) and the joining of sums (01, "The message").
+mod table;
+
+use table::TABLE;
+ghost use mathlib.Core.Path.{_≡_};
+ghost use Rattle.crc.specs.Sum.{bitStep, bitSteps, byteStep, sumFrom, sumOf, tableOf};
+ghost use Rattle.crc.specs.Joining.{answerOf, gate, joinOf, powerOf, product};
+
+// A sum after one more byte. The table is lent, because a constant is copied whole where it is indexed.
+fn step(table: &[u16; 256], sum: u16, byte: u8) -> u16
+    requires { ⌜ now table ≡ tableOf ⌝ }
+    ensures { λ r. ⌜ r ≡ byteStep sum byte ⌝ }
+{
+    let mixed = sum ^ (byte as u16);
+    let at = (mixed % 256) as usize;
+    table[at] ^ (mixed >> 8)
+}
+
+fn over(table: &[u16; 256], start: u16, bytes: &[u8]) -> u16
+    requires { ⌜ now table ≡ tableOf ⌝ }
+    ensures { λ r. ⌜ r ≡ sumFrom start (now (bytes .entry)) ⌝ }
+{
+    let mut sum = start;
+    let mut i = 0;
+    while i < bytes.len() {
+        sum = step(table, sum, bytes[i]);
+        i += 1;
+    }
+    sum
+}
+
+// The sum of `bytes` that goes on from `start`.
+pub fn sum_from(start: u16, bytes: &[u8]) -> u16
+    ensures { λ r. ⌜ r ≡ sumFrom start (now (bytes .entry)) ⌝ }
+{
+    let table = TABLE;
+    over(&table, start, bytes)
+}
+
+// The sum of `bytes`.
+pub fn sum(bytes: &[u8]) -> u16
+    ensures { λ r. ⌜ r ≡ sumOf (now (bytes .entry)) ⌝ }
+{
+    sum_from(0xffff, bytes)
+}
+
+// A stretch of bytes by its sum and its length alone.
+pub struct Part {
+    pub sum: u16,
+    pub len: u32,
+}
+
+// What joining answers: the two parts as one, or that no part is so long.
+pub enum Joined {
+    Whole(Part),
+    TooLong,
+}
+
+// `value` where the digit is 1, else nothing.
+fn gated(value: u16, digit: u16) -> u16
+    ensures { λ r. ⌜ r ≡ gate value digit ⌝ }
+{
+    if digit == 1 { value } else { 0 }
+}
+
+fn bit_step(sum: u16) -> u16
+    ensures { λ r. ⌜ r ≡ bitStep sum ⌝ }
+{
+    (sum / 2) ^ gated(0x8408, sum % 2)
+}
+
+// The shift by one byte.
+fn byte_shift(sum: u16) -> u16
+    ensures { λ r. ⌜ r ≡ bitSteps 8 sum ⌝ }
+{
+    let mut shifted = sum;
+    let mut left: usize = 8;
+    while 0 < left {
+        shifted = bit_step(shifted);
+        left -= 1;
+    }
+    shifted
+}
+
+// A sum carried over the gap that `power` stands for.
+pub fn carry(sum: u16, power: u16) -> u16
+    ensures { λ r. ⌜ r ≡ product 16 sum power ⌝ }
+{
+    let mut carried = 0;
+    let mut digits = power;
+    let mut left: usize = 16;
+    while 0 < left {
+        carried = bit_step(carried) ^ gated(sum, digits % 2);
+        digits = digits / 2;
+        left -= 1;
+    }
+    carried
+}
+
+// The power of the one-byte shift that carries a sum over n zero bytes, by halving n.
+pub fn power(n: u32) -> u16
+    ensures { λ r. ⌜ r ≡ powerOf n ⌝ }
+{
+    if n == 0 {
+        return 0x8000;
+    }
+    let half = power(n / 2);
+    let square = carry(half, half);
+    if n % 2 == 0 {
+        square
+    } else {
+        byte_shift(square)
+    }
+}
+
+// Two parts, one after the other, as one.
+pub fn join(a: Part, b: Part) -> Joined
+    ensures { λ r. ⌜ answerOf r ≡ joinOf a b ⌝ }
+{
+    let room = 0xffff_ffff - a.len;
+    if room < b.len {
+        return Joined::TooLong;
+    }
+    let carried = carry(a.sum ^ 0xffff, power(b.len));
+    Joined::Whole(Part {
+        sum: carried ^ b.sum,
+        len: a.len + b.len,
+    })
+}
