@@ -14,7 +14,7 @@ use Rattle.crc.specs.declared.Part.{Part}
 use Rattle.crc.specs.declared.Joined.{Joined}
 use Rattle.crc.specs.declared.Joined.the-variants.{Whole, TooLong}
 use Rattle.crc.specs.Sum.{start, sumFrom, sumOf, carried}
-use Rattle.crc.specs.Joining.{partOf, neutral, joinedOf, longest, answerOf, done, tooLong, joinOf, joinParts, Order, only, both, partsOf, joinedIn, answerIn, whole, powerOf, product}
+use Rattle.crc.specs.Joining.{partOf, neutral, joinedOf, joinAll, longest, answerOf, done, tooLong, joinOf, joinParts, Order, only, both, partsOf, joinedIn, answerIn, whole, powerOf, product}
 use Rattle.crc.proofs.Xor.{xor-assoc, xor-twice}
 use Rattle.crc.proofs.Halving.{product-carries}
 use Rattle.crc.proofs.Linear.{carried-linear, carried-zero, carried-add, sumFrom-linear}
@@ -65,12 +65,7 @@ joined-parts-are-the-part-of-both xs ys =
 
 -- ---- any order
 
--- parts joined from the right, to compare every order with
-joinAll : List Part → Part
-joinAll [] = neutral
-joinAll (p ∷ ps) = joinedOf p (joinAll ps)
-
-joinAll-append : (ps qs : List Part) → joinAll (ps ++ qs) ≡ joinedOf (joinAll ps) (joinAll qs)
+pub joinAll-append : (ps qs : List Part) → joinAll (ps ++ qs) ≡ joinedOf (joinAll ps) (joinAll qs)
 unfolding joinAll
 joinAll-append [] qs = sym (neutral-on-the-left (joinAll qs))
 joinAll-append (p ∷ ps) qs =
@@ -81,7 +76,7 @@ unfolding joinAll joinedIn partsOf
 order-joins-all (only p) = sym (neutral-on-the-right p)
 order-joins-all (both l r) = ap₂ joinedOf (order-joins-all l) (order-joins-all r) ∙ sym (joinAll-append (partsOf l) (partsOf r))
 
-joinAll-pieces : (pieces : List (List ℕ)) → joinAll (map partOf pieces) ≡ partOf (whole pieces)
+pub joinAll-pieces : (pieces : List (List ℕ)) → joinAll (map partOf pieces) ≡ partOf (whole pieces)
 unfolding joinAll whole sumOf sumFrom
 joinAll-pieces [] = refl
 joinAll-pieces (piece ∷ pieces) =

@@ -24,6 +24,11 @@ neutral = record { sum = start; len = 0 }
 unfoldable pub joinedOf : Part → Part → Part
 joinedOf a b = record { sum = bitXor (carried (b .len) (bitXor (a .sum) start)) (b .sum); len = a .len + b .len }
 
+-- Parts joined one after the other; no parts at all are the neutral one.
+unfoldable pub joinAll : List Part → Part
+joinAll [] = neutral
+joinAll (p ∷ ps) = joinedOf p (joinAll ps)
+
 -- The largest length that a part can have.
 abbrev pub longest : ℕ
 longest = 4294967295
