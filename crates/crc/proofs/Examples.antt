@@ -1,10 +1,9 @@
 -- The small examples of 01 that speak of sums and of joining, by computation. Assumes nothing.
 use mathlib.Core.Path.{_≡_, refl}
-use mathlib.Core.List.{List, [], _∷_}
+use mathlib.Core.List.{[], _∷_}
 use mathlib.Core.Option.{none}
-use Prim.Native.Nat.{ℕ}
-use Rattle.crc.specs.Sum.{start, bitStep, bitSteps, byteStep, sumFrom, sumOf, carried}
-use Rattle.crc.specs.Joining.{Answer, done, joinedOf, joinOf}
+use Rattle.crc.specs.Sum.{bitStep, bitSteps, byteStep, sumFrom, sumOf, carried}
+use Rattle.crc.specs.Joining.{done, joinedOf, joinOf}
 
 pub P1 : sumOf [] ≡ 0xFFFF
 unfolding sumOf sumFrom

@@ -1,5 +1,5 @@
 -- The byte step is what the fragment of C in ICD 10.8 does with a byte. Assumes nothing.
-use mathlib.Core.Path.{_≡_, refl, sym, ap, ap₂, _∙_}
+use mathlib.Core.Path.{_≡_, sym, ap, ap₂, _∙_}
 use Prim.Native.Nat.{ℕ, zero, suc, _/_, _%_, _^_, _<_}
 use lib.Arith.{lt-one}
 use lib.Bits.{bitXor, xor-comm, xor-zero-r}
