@@ -1,11 +1,11 @@
 -- The table's rule at each entry, and from there to the byte step of any sum. Assumes nothing.
-use mathlib.Core.Path.{_≡_, refl, sym, ap, ap₂, _∙_}
-use mathlib.Core.List.{List, [], _∷_}
+use mathlib.Core.Path.{_≡_, sym, ap, ap₂, _∙_}
+use mathlib.Core.List.{List}
 use Prim.Native.Nat.{ℕ, zero, suc, _+_, _*_, _/_, _%_, _^_, _<_}
 use native.Mathlib.Nat.{add-zero, zero-add, add-suc, suc-add, mul-one, le-of-suc-le-suc, not-suc-le-zero, div-add-mod', mod-lt, zero-lt-suc}
 use lib.Bits.{bitXor, xor-shifted, xor-comm, xor-zero-r, shifted-half, shifted-even}
 use lib.ListN.{getD}
-use Rattle.crc.specs.Sum.{bitStep, bitSteps, byteStep, steps, tableOf, polynomial}
+use Rattle.crc.specs.Sum.{bitStep, bitSteps, steps, tableOf, polynomial}
 use Rattle.crc.specs.Joining.{gate}
 use Rattle.crc.proofs.Linear.{bitSteps-linear}
 

@@ -1,9 +1,9 @@
 -- The small examples of 01 that speak of sums and of joining, by computation. Assumes nothing.
 use mathlib.Core.Path.{_≡_, refl}
-use mathlib.Core.List.{List, [], _∷_}
-use Prim.Native.Nat.{ℕ}
-use Rattle.crc.specs.Sum.{start, bitStep, bitSteps, byteStep, sumFrom, sumOf, carried}
-use Rattle.crc.specs.Joining.{Answer, done, joinedOf, joinOf}
+use mathlib.Core.List.{[], _∷_}
+use mathlib.Core.Option.{none}
+use Rattle.crc.specs.Sum.{bitStep, bitSteps, byteStep, sumFrom, sumOf, carried}
+use Rattle.crc.specs.Joining.{done, joinedOf, joinOf}
 
 pub P1 : sumOf [] ≡ 0xFFFF
 unfolding sumOf sumFrom
@@ -34,7 +34,11 @@ pub zero-length : joinedOf (record { sum = 0x1234; len = 0 }) (record { sum = 0x
 unfolding joinedOf carried
 zero-length = refl
 
--- One byte too many is refused, and one fewer is not.
-pub longest-joined : joinOf (record { sum = 0xFFFF; len = 0xFFFFFFFF }) (record { sum = 0xFFFF; len = 1 }) .number ≡ 36
+-- A total of one byte too many is refused, and gives no part; one byte fewer is joined.
+pub one-too-many : joinOf (record { sum = 0xFFFF; len = 0xFFFFFFFF }) (record { sum = 0xFFFF; len = 1 }) ≡ record { number = 36; part = none }
 unfolding joinOf
-longest-joined = refl
+one-too-many = refl
+
+pub the-longest : joinOf (record { sum = 0xFFFF; len = 0xFFFFFFFE }) (record { sum = 0xFFFF; len = 1 }) ≡ done (record { sum = 0xFFFF; len = 0xFFFFFFFF })
+unfolding joinOf joinedOf carried byteStep bitSteps bitStep
+the-longest = refl

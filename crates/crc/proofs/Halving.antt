@@ -89,7 +89,7 @@ unfolding bitSteps
 steps-last zero a = refl
 steps-last (suc k) a = steps-last k (bitStep a)
 
-half-below : {a : ℕ} (k : ℕ) → a < 2 ^ suc k → a / 2 < 2 ^ k
+pub half-below : {a : ℕ} (k : ℕ) → a < 2 ^ suc k → a / 2 < 2 ^ k
 half-below k h = div-lt-iff-lt-mul (zero-lt-suc 1) .1 (rw pow-suc at h)
 
 step-apart : (a : ℕ) → bitStep a ≡ bitXor (a / 2) (gate polynomial (a % 2))

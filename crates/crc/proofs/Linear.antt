@@ -1,11 +1,9 @@
 -- Bit steps, byte steps and carrying are linear: they pass through exclusive or. Assumes nothing.
 use mathlib.Core.Path.{_≡_, refl, sym, ap, ap₂, _∙_}
-use mathlib.Core.Bool.{cond}
 use mathlib.Core.List.{List, [], _∷_}
-use Prim.Native.Nat.{ℕ, zero, suc, _+_, _*_, _/_, _%_, _<_, _^_}
+use Prim.Native.Nat.{ℕ, zero, suc, _+_, _/_, _%_}
 use native.Mathlib.Nat.{zero-add, suc-add}
 use lib.Bits.{bitXor, differ, xor-zero-r, xor-self}
-use lib.Dec.{eqb}
 use lib.ListN.{length}
 use Rattle.crc.specs.Sum.{bitStep, bitSteps, byteStep, sumFrom, carried, polynomial}
 use Rattle.crc.specs.Joining.{gate}

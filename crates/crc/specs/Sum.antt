@@ -25,6 +25,12 @@ bitSteps (suc k) sum = bitSteps k (bitStep sum)
 unfoldable pub byteStep : ℕ → ℕ → ℕ
 byteStep sum byte = bitSteps 8 (bitXor sum byte)
 
+-- The same byte as ICD 10.8's fragment of C takes it, one bit at a time: `left` bits of `ch`, the lowest first.
+-- `byteStep-is-the-fragment` in proofs/ says that the two agree.
+unfoldable pub fragment : ℕ → ℕ → ℕ → ℕ
+fragment zero crc ch = crc
+fragment (suc left) crc ch = fragment left (bitXor (crc / 2) (cond (eqb (bitXor ch crc % 2) 1) polynomial 0)) (ch / 2)
+
 -- The sum that goes on from another over a list of bytes.
 unfoldable pub sumFrom : ℕ → List ℕ → ℕ
 sumFrom sum [] = sum

@@ -6,6 +6,18 @@ ghost use mathlib.Core.Path.{_≡_};
 ghost use Rattle.crc.specs.Sum.{bitStep, bitSteps, byteStep, sumFrom, sumOf, tableOf};
 ghost use Rattle.crc.specs.Joining.{answerOf, gate, joinOf, powerOf, product};
 
+// The sum of no bytes.
+const START: u16 = 0xffff;
+
+// x^16 + x^12 + x^5 + 1 with the low bit first.
+const POLYNOMIAL: u16 = 0x8408;
+
+// The power that shifts by nothing.
+const ONE: u16 = 0x8000;
+
+// The largest length that a part can have.
+const LONGEST: u32 = 0xffff_ffff;
+
 // A sum after one more byte. The table is lent, because a constant is copied whole where it is indexed.
 fn step(table: &[u16; 256], sum: u16, byte: u8) -> u16
     requires { ⌜ now table ≡ tableOf ⌝ }
@@ -41,7 +53,7 @@ pub fn sum_from(start: u16, bytes: &[u8]) -> u16
 pub fn sum(bytes: &[u8]) -> u16
     ensures { λ r. ⌜ r ≡ sumOf (now (bytes .entry)) ⌝ }
 {
-    sum_from(0xffff, bytes)
+    sum_from(START, bytes)
 }
 
 // A stretch of bytes by its sum and its length alone.
@@ -66,7 +78,7 @@ fn gated(value: u16, digit: u16) -> u16
 fn bit_step(sum: u16) -> u16
     ensures { λ r. ⌜ r ≡ bitStep sum ⌝ }
 {
-    (sum / 2) ^ gated(0x8408, sum % 2)
+    (sum / 2) ^ gated(POLYNOMIAL, sum % 2)
 }
 
 // The shift by one byte.
@@ -102,7 +114,7 @@ pub fn power(n: u32) -> u16
     ensures { λ r. ⌜ r ≡ powerOf n ⌝ }
 {
     if n == 0 {
-        return 0x8000;
+        return ONE;
     }
     let half = power(n / 2);
     let square = carry(half, half);
@@ -117,11 +129,11 @@ pub fn power(n: u32) -> u16
 pub fn join(a: Part, b: Part) -> Joined
     ensures { λ r. ⌜ answerOf r ≡ joinOf a b ⌝ }
 {
-    let room = 0xffff_ffff - a.len;
+    let room = LONGEST - a.len;
     if room < b.len {
         return Joined::TooLong;
     }
-    let carried = carry(a.sum ^ 0xffff, power(b.len));
+    let carried = carry(a.sum ^ START, power(b.len));
     Joined::Whole(Part {
         sum: carried ^ b.sum,
         len: a.len + b.len,

@@ -1,6 +1,6 @@
 -- `crc::byte_shift` meets its contract. The invariant: the steps that are left bring the sum to where eight bring it.
 -- Assumes nothing.
-use mathlib.Core.Path.{_≡_, refl, sym, _∙_}
+use mathlib.Core.Path.{_≡_, refl, _∙_}
 use borrow.Author.Needs.{needs}
 use native.Mathlib.Omega.{arith}
 use Rattle.crc.specs.Sum.{bitSteps}

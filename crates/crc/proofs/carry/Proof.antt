@@ -1,12 +1,11 @@
 -- `crc::carry` meets its contract. The invariant: what is carried so far, after the steps that are left, with the product
 -- of the digits that are left is the whole product. Assumes nothing.
-use mathlib.Core.Path.{_≡_, refl, sym, _∙_}
+use mathlib.Core.Path.{_≡_, _∙_}
 use borrow.Author.Needs.{needs}
 use native.Mathlib.Omega.{arith}
 use lib.Bits.{bitXor}
 use Rattle.crc.specs.Sum.{bitSteps}
 use Rattle.crc.specs.Joining.{product}
-use Rattle.crc.proofs.Linear.{bitSteps-zero}
 use Rattle.crc.proofs.Turns.{product-start, product-turn, product-end}
 use Rattle.crc.proofs.carry.Statement.{statement}
 use Rattle.crc.proofs.carry.Tie as tie

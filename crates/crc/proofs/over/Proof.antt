@@ -1,10 +1,10 @@
 -- `crc::over` meets its contract. The invariant: the sum so far goes on over the bytes that are left. Assumes nothing.
-use mathlib.Core.Path.{_≡_, refl, sym, ap, _∙_}
+use mathlib.Core.Path.{_≡_, refl, _∙_}
 use Prim.Native.Nat.{_≤_, _-_}
 use borrow.Author.Needs.{needs}
 use native.Mathlib.Omega.{arith}
 use lib.ListN.{length, drop}
-use Rattle.crc.specs.Sum.{sumFrom, tableOf}
+use Rattle.crc.specs.Sum.{sumFrom}
 use Rattle.crc.proofs.Turns.{sum-turn, sum-end}
 use Rattle.crc.proofs.over.Statement.{statement}
 use Rattle.crc.proofs.over.Tie as tie

@@ -1,0 +1,28 @@
+//! The proved code as Rust calls it, beside plain Rust that was written from ICD 10.8 and 01 alone.
+
+pub mod plain;
+pub mod proved;
+
+/// A stretch of bytes by its sum and its length alone.
+#[derive(Clone, Copy, Debug, PartialEq, Eq)]
+pub struct Part {
+    pub sum: u16,
+    pub len: u32,
+}
+
+/// Numbers that look random and are the same in every run (splitmix64).
+pub struct Seeded(pub u64);
+
+impl Seeded {
+    pub fn number(&mut self) -> u64 {
+        self.0 = self.0.wrapping_add(0x9e37_79b9_7f4a_7c15);
+        let mut z = self.0;
+        z = (z ^ (z >> 30)).wrapping_mul(0xbf58_476d_1ce4_e5b9);
+        z = (z ^ (z >> 27)).wrapping_mul(0x94d0_49bb_1331_11eb);
+        z ^ (z >> 31)
+    }
+
+    pub fn bytes(&mut self, length: usize) -> Vec<u8> {
+        (0..length).map(|_| self.number() as u8).collect()
+    }
+}

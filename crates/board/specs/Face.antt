@@ -1,0 +1,19 @@
+-- How C's values stand for those of the rooms below. Assumes nothing.
+use mathlib.Core.Option.{Option, none, some}
+use Rattle.crc.specs.declared.Part.{Part}
+use Rattle.crc.specs.Joining.{Answer}
+use Rattle.board.specs.declared.WheelPart.{WheelPart}
+use Rattle.board.specs.declared.WheelJoined.{WheelJoined}
+
+-- A part as it comes from C.
+abbrev pub partIn : WheelPart → Part
+partIn p = record { sum = p .sum; len = p .len }
+
+-- A part as it goes to C; where there is none, zeros.
+abbrev pub partOut : Option Part → WheelPart
+partOut none = record { sum = 0; len = 0 }
+partOut (some p) = record { sum = p .sum; len = p .len }
+
+-- An answer of joining as it goes to C: its number, and the part.
+abbrev pub joinedOut : Answer → WheelJoined
+joinedOut a = record { answer = a .number; part = partOut (a .part) }
