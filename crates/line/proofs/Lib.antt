@@ -1,0 +1,11 @@
+pub mod Cases
+pub mod Stores
+pub mod Receiving
+pub mod Escaping
+pub mod Laying
+pub mod Counting
+pub mod Runs
+pub mod RoundTrip
+pub mod Bounds
+pub mod Settled
+pub mod Examples

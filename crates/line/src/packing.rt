@@ -1,0 +1,81 @@
+// Packing: a message, its two last bytes already on it, as the line carries it.
+use super::framing::FEND;
+use super::framing::FESC;
+use super::framing::TFEND;
+use super::framing::TFESC;
+ghost use mathlib.Core.Path.{_≡_};
+ghost use Prim.Native.Nat.{_+_, _<_};
+ghost use lib.ListN.{length, take};
+ghost use lib.Seq.{sets};
+ghost use Rattle.line.specs.Packing.{packingOf, packOf, escapedOf};
+
+// The shortest and the longest message that is packed, and the room that the longest may take.
+const SHORTEST: usize = 5;
+
+const LONGEST: usize = 1_033;
+
+const ROOM: usize = 2_068;
+
+pub enum Packed {
+    // This many bytes are written, from the start of the reply buffer.
+    Sent(usize),
+    // The reply buffer has too little room; nothing is written.
+    ShortReply,
+    // The message is too short or too long; nothing is written.
+    BadLength,
+}
+
+// One byte of the message, escaped where it must be; the answer is the next free place. There is room for an escape at every byte, so
+// that the loop over a message tests none.
+fn put(byte: u8, at: usize, reply: &mut [u8]) -> usize
+    requires { ⌜ at + 1 < length (now reply) ⌝ }
+    ensures { λ r. ⌜ (r ≡ at + length (escapedOf byte)) × (now (reply .exit) ≡ sets (now (reply .entry)) at (escapedOf byte)) ⌝ }
+{
+    if byte == FEND {
+        reply[at] = FESC;
+        reply[at + 1] = TFEND;
+        return at + 2;
+    }
+    if byte == FESC {
+        reply[at] = FESC;
+        reply[at + 1] = TFESC;
+        return at + 2;
+    }
+    reply[at] = byte;
+    at + 1
+}
+
+// The message as the line carries it, into the first part of the reply buffer. Which refusal comes first is 01's order.
+pub fn pack(message: &[u8], reply: &mut [u8]) -> Packed
+    ensures { λ r. ⌜ packingOf r (now (reply .exit)) ≡ packOf (now (message .entry)) (now (reply .entry)) ⌝ }
+{
+    if reply.len() < ROOM {
+        return Packed::ShortReply;
+    }
+    if message.len() < SHORTEST {
+        return Packed::BadLength;
+    }
+    if LONGEST < message.len() {
+        return Packed::BadLength;
+    }
+    reply[0] = FEND;
+    let mut at = 1;
+    let mut i = 0;
+    while i < message.len() {
+        at = put(message[i], at, reply);
+        i += 1;
+    }
+    reply[at] = FEND;
+    Packed::Sent(at + 1)
+}
+
+// The written first part of a reply buffer, handed back to be sent. An `n` past the end gives the whole.
+pub fn sent<'a>(reply: &'a mut [u8], n: usize) -> &'a mut [u8]
+    ensures { λ r. ⌜ now r ≡ take n (now (reply .entry)) ⌝ }
+{
+    if n <= reply.len() {
+        &mut reply[0..n]
+    } else {
+        reply
+    }
+}
