@@ -1,0 +1,12 @@
+-- Diagnostics: 31 values, of which four count dropped runs. 01, "One byte in, one answer out". Assumes nothing.
+use Prim.Native.Nat.{ℕ, _+_, min}
+use mathlib.Core.List.{List}
+use lib.ListN.{getD, set}
+
+-- A count stays at its largest value.
+abbrev pub largestCount : ℕ
+largestCount = 4294967295
+
+-- The diagnostics with one more at a channel.
+unfoldable pub countedUp : List ℕ → ℕ → List ℕ
+countedUp diagnostics channel = set diagnostics channel (min (getD diagnostics channel 0 + 1) largestCount)

@@ -1,0 +1,5 @@
+pub mod Bytes
+pub mod Edac
+pub mod Fram
+pub mod Crossing
+pub mod Counts

@@ -1,0 +1,67 @@
+// EDAC memory by byte and by file.
+use crate::bytes::put;
+ghost use mathlib.Core.Path.{_≡_};
+ghost use Prim.Native.Nat.{_+_, _≤_};
+ghost use lib.ListN.{length};
+ghost use Rattle.memory.specs.Bytes.{stored};
+ghost use Rattle.memory.specs.Edac.{edacSize, bytesOf, insideEdac, bodySize, shownSize, fileShown, fileStored};
+
+// Where the mode byte of file 0 stands.
+const MODE: usize = 0x5c3;
+
+// Counts words of four bytes.
+pub struct FileAddress(pub u8);
+
+// Counts bytes.
+pub struct EdacAddress(pub u16);
+
+impl FileAddress {
+    // The address of the file's first byte.
+    pub fn bytes(self) -> EdacAddress
+        ensures { λ r. ⌜ r .0 ≡ bytesOf (self .0) ⌝ }
+    {
+        EdacAddress(4 * (self.0 as u16))
+    }
+}
+
+// Whether a range of `count` bytes lies in EDAC memory.
+pub fn holds(at: EdacAddress, count: usize) -> bool
+    ensures { λ r. ⌜ r ≡ insideEdac (at .0) count ⌝ }
+{
+    if 1536 < count {
+        return false;
+    }
+    (at.0 as usize) <= 1536 - count
+}
+
+// Writes what a reply shows of a file from `at` on, and answers the place after it.
+pub fn show_file(edac: &[u8], file: FileAddress, reply: &mut [u8], at: usize) -> usize
+    requires { ⌜ (length (now edac) ≡ edacSize) × (at + shownSize (file .0) ≤ length (now reply)) ⌝ }
+    ensures { λ r. ⌜ (r ≡ at + shownSize (file .0)) × (now (reply .exit) ≡ stored (now (reply .entry)) at (fileShown (now (edac .entry)) (file .0))) ⌝ }
+{
+    reply[at] = file.0;
+    if file.0 == 0 {
+        reply[at + 1] = edac[MODE];
+        put(&edac[0..4], reply, at + 2);
+        return at + 6;
+    }
+    let start = file.bytes();
+    let from = start.0 as usize;
+    let to = from + 4;
+    put(&edac[from..to], reply, at + 1);
+    at + 5
+}
+
+// Stores a file's body.
+pub fn store_file(edac: &mut [u8], file: FileAddress, body: &[u8])
+    requires { ⌜ (length (now edac) ≡ edacSize) × (length (now body) ≡ bodySize (file .0)) ⌝ }
+    ensures { λ _. ⌜ now (edac .exit) ≡ fileStored (now (edac .entry)) (file .0) (now (body .entry)) ⌝ }
+{
+    if file.0 == 0 {
+        edac[MODE] = body[0];
+        put(&body[1..], edac, 0);
+        return;
+    }
+    let start = file.bytes();
+    put(body, edac, start.0 as usize);
+}
