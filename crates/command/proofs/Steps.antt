@@ -1,0 +1,40 @@
+-- The three ways of a step over a list of structures. Assumes nothing.
+use mathlib.Core.Path.{_≡_, refl, sym, ap, _∙_}
+use mathlib.Core.Bool.{Bool, true, false, not}
+use mathlib.Core.List.{List}
+use Prim.Native.Nat.{ℕ, _+_, _-_, _≤_, _<_}
+use native.Mathlib.Omega.{arith}
+use borrow.Author.Tests.{le-leb, lt-leb, le-ltb, lt-ltb, not-true, not-false}
+use lib.Dec.{leb}
+use lib.ListN.{length}
+use Rattle.memory.proofs.Tests.{either-side}
+use Rattle.command.specs.declared.reader.Step.{Step}
+use Rattle.command.specs.declared.reader.Step.the-variants.{Structure, Short, End}
+use Rattle.command.specs.Reading.{stepOf, isStructure}
+
+pub step-ends : (field : List ℕ) (at width : ℕ) → length field ≤ at → End ≡ stepOf field at width
+unfolding stepOf
+step-ends field at width h = simp (le-leb (length field) at h)
+
+pub step-lacks : (field : List ℕ) (at width : ℕ) → at < length field → length field - at < width → Short ≡ stepOf field at width
+unfolding stepOf
+step-lacks field at width h lacks = simp (lt-leb (length field) at h, lt-ltb (length field) (at + width) (omega arith))
+
+pub step-steps : (field : List ℕ) (at width : ℕ) → at < length field → width ≤ length field - at → Structure (at + width) ≡ stepOf field at width
+unfolding stepOf
+step-steps field at width h fits = simp (lt-leb (length field) at h, le-ltb (length field) (at + width) (omega arith))
+
+pub a-structure-stands : (field : List ℕ) (at width : ℕ) → at < length field → isStructure (stepOf field at width) ≡ leb (at + width) (length field)
+a-structure-stands field at width h =
+    either-side (at + width) (length field)
+    (λ fits. ap isStructure (sym (step-steps field at width h (omega arith))) ∙ sym (le-leb (at + width) (length field) fits))
+    (λ lacks. ap isStructure (sym (step-lacks field at width h (omega arith))) ∙ sym (lt-leb (at + width) (length field) lacks))
+
+-- what the answer of `stands`, as the code tests it, tells
+pub stands-here : (field : List ℕ) (at width : ℕ) (answer : Bool) → answer ≡ isStructure (stepOf field at width) → at < length field → not answer ≡ false
+    → leb (at + width) (length field) ≡ true
+stands-here field at width answer e h t = sym (a-structure-stands field at width h) ∙ sym e ∙ not-false answer t
+
+pub lacks-here : (field : List ℕ) (at width : ℕ) (answer : Bool) → answer ≡ isStructure (stepOf field at width) → at < length field → not answer ≡ true
+    → leb (at + width) (length field) ≡ false
+lacks-here field at width answer e h t = sym (a-structure-stands field at width h) ∙ sym e ∙ not-true answer t

@@ -1,0 +1,33 @@
+-- `command::init::starts_application` meets its contract, by its tests. Assumes nothing.
+use mathlib.Core.Path.{ap, sym, _∙_}
+use lib.Dec.{eqb}
+use Rattle.command.specs.Init.{applicationStart}
+use Rattle.command.proofs.Ways.{starts-not-with, starts-with-four}
+use borrow.Author.Tests.{eq-eqb, ne-eqb}
+use borrow.Author.Needs.{needs}
+use Rattle.command.proofs.init.starts_application.Statement.{statement}
+use Rattle.command.proofs.init.starts_application.Tie as tie
+
+enum-told : tie.Need-enum-told
+enum-told c = search needs
+
+enum-told-2 : tie.Need-enum-told-2
+enum-told-2 c = search needs
+
+returns : tie.Need-returns
+returns c = search needs
+
+returns-2 : tie.Need-returns-2
+returns-2 c = rw (c .before .enum-told .given .1) (starts-not-with (c .before .before .before .before .args .field .now) (c .if1 .taken))
+
+word32-requires : tie.Need-word32-requires
+word32-requires c κs = search needs
+
+returns-3 : tie.Need-returns-3
+returns-3 c =
+    rw (c .before .before .enum-told .given .1)
+    (ap (λ n. eqb n applicationStart) (c .word32 .ensures) ∙ starts-with-four (c .before .before .before .before .before .args .field .now) (c .before .if1 .left))
+
+pub starts-application-spec : {M : Type 1} → statement M
+starts-application-spec =
+    tie.close (tie.spec enum-told enum-told-2 returns returns-2 word32-requires returns-3)

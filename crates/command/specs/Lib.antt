@@ -1,0 +1,15 @@
+pub mod Outcome
+pub mod Fields
+pub mod Reading
+pub mod Ping
+pub mod Init
+pub mod Peek
+pub mod Poke
+pub mod Diagnostic
+pub mod Crc
+pub mod ReadFile
+pub mod WriteFile
+pub mod ReadEdac
+pub mod WriteEdac
+pub mod Gather
+pub mod Command
