@@ -16,7 +16,7 @@ use Rattle.memory.specs.Bytes.{stretch}
 use Rattle.memory.proofs.Stretches.{length-of-a-stretch}
 use Rattle.memory.proofs.Files.{a-file-is-shown-in-its-size}
 use Rattle.memory.specs.Edac.{edacSize, bodySize, shownSize, fileShown, fileStored}
-use Rattle.command.specs.Fields.{word16At, bytes32}
+use Rattle.field.specs.Fields.{word16At, bytes32}
 use Rattle.command.specs.Diagnostic.{lastChannel, allChannels, channelsShown}
 use Rattle.command.specs.ReadFile.{filesShown, filesWidth}
 use Rattle.command.specs.WriteFile.{Listed, end, short, file, listed, whole, filesOf, filesStored}

@@ -15,7 +15,7 @@ use Rattle.memory.specs.declared.fram.Found.the-variants.{At, Outside}
 use Rattle.command.specs.declared.Mode.{Mode}
 use Rattle.command.specs.declared.Mode.the-variants.{Bootloader, Application}
 use Rattle.command.specs.Outcome.{Outcome, done, refused, unfitted}
-use Rattle.command.specs.Fields.{word16At, word32At, bytes16, shortCount}
+use Rattle.field.specs.Fields.{word16At, word32At, bytes16, shortCount}
 use Rattle.command.specs.Init.{applicationStart, starts, initOf}
 use Rattle.command.specs.Peek.{peekedOf, peekOf}
 use Rattle.command.specs.Poke.{pokeOf}

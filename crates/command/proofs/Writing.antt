@@ -8,7 +8,7 @@ use lib.ListN.{length, take, drop, length-append, length-drop}
 use lib.Seq.{length-take-le, take-add, drop-drop, take-length, take-at, drop-at, take-all, drop-nil}
 use Rattle.memory.specs.Bytes.{stretch, stored, begun}
 use Rattle.memory.proofs.Stretches.{stored-first-is-begun, a-begun-buffer-goes-on, a-store-goes-on, length-of-a-stretch}
-use Rattle.command.specs.Fields.{word16At, bytes16}
+use Rattle.field.specs.Fields.{word16At, bytes16}
 use Rattle.command.specs.declared.Answer.{Answer}
 use Rattle.command.specs.declared.Answer.the-variants.{Done, Refused, Unfitted}
 use Rattle.command.specs.Outcome.{Outcome, done, refused, unfitted, Left, left, leaves}

@@ -6,7 +6,7 @@ use lib.Dec.{eqb, ltb}
 use lib.ListN.{length}
 use Rattle.memory.specs.Fram.{Kept, placeOf, rangeSum}
 use Rattle.command.specs.Outcome.{Outcome, done, refused, atPlace}
-use Rattle.command.specs.Fields.{word32At, bytes16}
+use Rattle.field.specs.Fields.{word32At, bytes16}
 
 -- How many bytes from the first address to the last, which is included.
 abbrev pub bytesFrom : ℕ → ℕ → ℕ

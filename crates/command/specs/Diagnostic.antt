@@ -5,7 +5,7 @@ use mathlib.Core.List.{List, [], _∷_, _++_}
 use lib.Dec.{eqb, leb, ltb}
 use lib.ListN.{length, getD}
 use Rattle.command.specs.Outcome.{Outcome, done, refused}
-use Rattle.command.specs.Fields.{bytes32}
+use Rattle.field.specs.Fields.{bytes32}
 
 abbrev pub lastChannel : ℕ
 lastChannel = 0x1E

@@ -7,7 +7,7 @@ use lib.ListN.{length}
 use Rattle.command.specs.declared.Mode.{Mode}
 use Rattle.command.specs.declared.Mode.the-variants.{Bootloader, Application}
 use Rattle.command.specs.Outcome.{Outcome, done, refused}
-use Rattle.command.specs.Fields.{word32At}
+use Rattle.field.specs.Fields.{word32At}
 
 abbrev pub applicationStart : ℕ
 applicationStart = 0x20050000

@@ -1,6 +1,4 @@
 pub mod Outcome
-pub mod Fields
-pub mod Reading
 pub mod Ping
 pub mod Init
 pub mod Peek

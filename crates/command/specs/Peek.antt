@@ -7,7 +7,7 @@ use lib.ListN.{length, take, getD}
 use Rattle.memory.specs.Bytes.{stretch}
 use Rattle.memory.specs.Fram.{placeOf}
 use Rattle.command.specs.Outcome.{Outcome, done, refused, atPlace}
-use Rattle.command.specs.Fields.{word16At, word32At, shortCount}
+use Rattle.field.specs.Fields.{word16At, word32At, shortCount}
 
 -- A count of 0 is refused, and so is one whose reply, address and bytes, has no room.
 unfoldable pub peekedOf : ℕ → ℕ → List ℕ → List ℕ → ℕ → Outcome (Unit {0})

@@ -6,7 +6,7 @@ use lib.Dec.{ltb}
 use lib.ListN.{length, drop}
 use Rattle.memory.specs.Fram.{Kept, placeOf, storeOf}
 use Rattle.command.specs.Outcome.{Outcome, done, refused, atPlace}
-use Rattle.command.specs.Fields.{word32At}
+use Rattle.field.specs.Fields.{word32At}
 
 -- Address and at least one byte, echoed, so no more than the reply has room for: 1 to 1,024 bytes in a room of 1,028.
 unfoldable pub pokeOf : ℕ → ℕ → Kept → List ℕ → Outcome Kept

@@ -7,7 +7,7 @@ use lib.ListN.{length, take, getD}
 use Rattle.memory.specs.Bytes.{stretch}
 use Rattle.memory.specs.Edac.{insideEdac}
 use Rattle.command.specs.Outcome.{Outcome, done, refused}
-use Rattle.command.specs.Fields.{word16At, shortCount}
+use Rattle.field.specs.Fields.{word16At, shortCount}
 
 unfoldable pub edacReadOf : ℕ → List ℕ → List ℕ → ℕ → Outcome (Unit {0})
 edacReadOf room edac field count =

@@ -7,7 +7,7 @@ use lib.ListN.{length, drop}
 use Rattle.memory.specs.Bytes.{stored}
 use Rattle.memory.specs.Edac.{insideEdac}
 use Rattle.command.specs.Outcome.{Outcome, done, refused}
-use Rattle.command.specs.Fields.{word16At}
+use Rattle.field.specs.Fields.{word16At}
 
 -- Address and at least one byte, echoed, so no more than the reply has room for.
 unfoldable pub writeEdacOf : ℕ → List ℕ → List ℕ → Outcome (List ℕ)

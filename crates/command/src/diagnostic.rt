@@ -7,7 +7,7 @@ ghost use mathlib.Core.List.{_∷_};
 ghost use Prim.Native.Nat.{_+_, _*_, _≤_};
 ghost use lib.ListN.{length};
 ghost use Rattle.memory.specs.Bytes.{stored, begun};
-ghost use Rattle.command.specs.Fields.{bytes32};
+ghost use Rattle.field.specs.Fields.{bytes32};
 ghost use Rattle.command.specs.Outcome.{left, leaves};
 ghost use Rattle.command.specs.Diagnostic.{allChannels, channelsShown, diagnosticOf};
 

@@ -1,7 +1,7 @@
 // GATHER 0x0B.
 use crate::Answer;
-use crate::fields::word16;
-use crate::reader::stands;
+use field::fields::word16;
+use field::reader::stands;
 use memory::bytes::put;
 use memory::edac::EdacAddress;
 ghost use mathlib.Core.Path.{_≡_};
@@ -10,7 +10,7 @@ ghost use mathlib.Core.List.{_++_};
 ghost use Prim.Native.Nat.{_+_, _≤_};
 ghost use lib.ListN.{length};
 ghost use Rattle.memory.specs.Bytes.{stretch, stored, begun};
-ghost use Rattle.command.specs.Fields.{word16At};
+ghost use Rattle.field.specs.Fields.{word16At};
 ghost use Rattle.memory.specs.Edac.{edacSize};
 ghost use Rattle.command.specs.Outcome.{left, leaves};
 ghost use Rattle.command.specs.Gather.{rangeHolds, rangesHold, rangesWidth, rangesShown, gatherOf};

@@ -2,7 +2,7 @@
 use crate::Answer;
 use crate::Carried;
 use crate::Mode;
-use crate::fields::word32;
+use field::fields::word32;
 ghost use mathlib.Core.Path.{_≡_};
 ghost use Prim.Native.Nat.{_≤_};
 ghost use lib.ListN.{length};

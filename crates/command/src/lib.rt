@@ -1,6 +1,5 @@
 // The eleven commands: one module for each, which judges a data field, carries it out on memory and writes its reply's data.
 pub mod diagnostic;
-pub mod fields;
 pub mod gather;
 pub mod init;
 pub mod peek;
@@ -9,7 +8,6 @@ pub mod poke;
 pub mod range_crc;
 pub mod read_edac;
 pub mod read_file;
-pub mod reader;
 pub mod write_edac;
 pub mod write_file;
 

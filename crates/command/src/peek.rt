@@ -1,8 +1,8 @@
 // PEEK 0x02.
 use crate::Answer;
-use crate::fields::short_count;
-use crate::fields::word16;
-use crate::fields::word32;
+use field::fields::short_count;
+use field::fields::word16;
+use field::fields::word32;
 use memory::bytes::put;
 use memory::fram::Found;
 ghost use mathlib.Core.Path.{_≡_};

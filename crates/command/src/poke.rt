@@ -1,6 +1,6 @@
 // POKE 0x03.
 use crate::Answer;
-use crate::fields::word32;
+use field::fields::word32;
 use memory::bytes::put;
 use memory::fram::Found;
 ghost use mathlib.Core.Path.{_≡_};

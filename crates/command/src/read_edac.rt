@@ -1,7 +1,7 @@
 // READ EDAC 0x09.
 use crate::Answer;
-use crate::fields::short_count;
-use crate::fields::word16;
+use field::fields::short_count;
+use field::fields::word16;
 use memory::bytes::put;
 use memory::edac::EdacAddress;
 ghost use mathlib.Core.Path.{_≡_};

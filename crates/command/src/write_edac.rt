@@ -1,6 +1,6 @@
 // WRITE EDAC 0x0A.
 use crate::Answer;
-use crate::fields::word16;
+use field::fields::word16;
 use memory::bytes::put;
 use memory::edac::EdacAddress;
 ghost use mathlib.Core.Path.{_≡_};

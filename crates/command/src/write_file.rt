@@ -1,7 +1,7 @@
 // WRITE FILE 0x08. The list is judged whole before anything is stored, and shown after everything is.
 use crate::Answer;
 use crate::read_file::width;
-use crate::reader::stands;
+use field::reader::stands;
 use memory::edac::FileAddress;
 use memory::edac::show_file;
 use memory::edac::store_file;

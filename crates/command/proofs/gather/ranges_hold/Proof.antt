@@ -1,5 +1,5 @@
 -- `command::gather::ranges_hold` meets its contract. The invariant: what is left of the list decides the whole. Assumes nothing.
-use Rattle.command.proofs.Steps.{stands-here, lacks-here}
+use Rattle.field.proofs.Steps.{stands-here, lacks-here}
 use mathlib.Core.Path.{_≡_, refl, sym, ap₂, _∙_}
 use Prim.Native.Nat.{_+_, _≤_, _-_}
 use native.Mathlib.Omega.{arith}

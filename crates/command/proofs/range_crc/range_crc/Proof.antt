@@ -5,7 +5,7 @@ use Prim.Native.Nat.{_+_, _-_}
 use native.Mathlib.Omega.{arith}
 use lib.ListN.{length, length-append}
 use Rattle.memory.specs.Fram.{placeOf, kept, rangeSum}
-use Rattle.command.specs.Fields.{word32At, bytes16}
+use Rattle.field.specs.Fields.{word32At, bytes16}
 use Rattle.command.specs.Crc.{bytesFrom}
 use Rattle.command.proofs.Writing.{is-done, is-refused, is-unfitted, two-writes}
 use Rattle.command.proofs.Ways.{a-place-lies-inside, crc-of-another-length, crc-backwards, crc-outside, crc-inside}

@@ -7,7 +7,7 @@ use lib.Dec.{leb}
 use lib.ListN.{length, drop, getD}
 use Rattle.memory.specs.Edac.{shownSize}
 use Rattle.command.specs.WriteFile.{listed, whole}
-use Rattle.command.proofs.Steps.{stands-here, lacks-here}
+use Rattle.field.proofs.Steps.{stands-here, lacks-here}
 use Rattle.command.proofs.Lists.{list-is-cut, list-goes-on, list-ends, at-least-five}
 use Rattle.command.proofs.write_file.is_whole.Statement.{statement}
 use Rattle.command.proofs.write_file.is_whole.Tie as tie

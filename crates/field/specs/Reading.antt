@@ -4,8 +4,8 @@ use mathlib.Core.Bool.{Bool, true, false, cond}
 use mathlib.Core.List.{List}
 use lib.Dec.{leb, ltb}
 use lib.ListN.{length}
-use Rattle.command.specs.declared.reader.Step.{Step}
-use Rattle.command.specs.declared.reader.Step.the-variants.{Structure, Short, End}
+use Rattle.field.specs.declared.reader.Step.{Step}
+use Rattle.field.specs.declared.reader.Step.the-variants.{Structure, Short, End}
 
 -- What stands at a place, where a structure has `width` bytes.
 unfoldable pub stepOf : List ℕ → ℕ → ℕ → Step

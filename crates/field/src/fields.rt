@@ -2,7 +2,7 @@
 ghost use mathlib.Core.Path.{_≡_};
 ghost use Prim.Native.Nat.{_+_, _≤_, _<_};
 ghost use lib.ListN.{length};
-ghost use Rattle.command.specs.Fields.{word16At, word32At, shortCount};
+ghost use Rattle.field.specs.Fields.{word16At, word32At, shortCount};
 
 fn wide(byte: u8) -> u16
     ensures { λ r. ⌜ (r ≡ byte) × (r < 256) ⌝ }

@@ -4,13 +4,12 @@ use mathlib.Core.Bool.{Bool, true, false, not}
 use mathlib.Core.List.{List}
 use Prim.Native.Nat.{ℕ, _+_, _-_, _≤_, _<_}
 use native.Mathlib.Omega.{arith}
-use borrow.Author.Tests.{le-leb, lt-leb, le-ltb, lt-ltb, not-true, not-false}
+use borrow.Author.Tests.{le-leb, lt-leb, le-ltb, lt-ltb, leb-true, leb-false, not-true, not-false}
 use lib.Dec.{leb}
 use lib.ListN.{length}
-use Rattle.memory.proofs.Tests.{either-side}
-use Rattle.command.specs.declared.reader.Step.{Step}
-use Rattle.command.specs.declared.reader.Step.the-variants.{Structure, Short, End}
-use Rattle.command.specs.Reading.{stepOf, isStructure}
+use Rattle.field.specs.declared.reader.Step.{Step}
+use Rattle.field.specs.declared.reader.Step.the-variants.{Structure, Short, End}
+use Rattle.field.specs.Reading.{stepOf, isStructure}
 
 pub step-ends : (field : List ℕ) (at width : ℕ) → length field ≤ at → End ≡ stepOf field at width
 unfolding stepOf
@@ -25,10 +24,15 @@ unfolding stepOf
 step-steps field at width h fits = simp (lt-leb (length field) at h, le-ltb (length field) (at + width) (omega arith))
 
 pub a-structure-stands : (field : List ℕ) (at width : ℕ) → at < length field → isStructure (stepOf field at width) ≡ leb (at + width) (length field)
-a-structure-stands field at width h =
-    either-side (at + width) (length field)
-    (λ fits. ap isStructure (sym (step-steps field at width h (omega arith))) ∙ sym (le-leb (at + width) (length field) fits))
-    (λ lacks. ap isStructure (sym (step-lacks field at width h (omega arith))) ∙ sym (lt-leb (at + width) (length field) lacks))
+a-structure-stands field at width h = apart (leb (at + width) (length field)) refl
+  where
+    apart : (b : Bool) → leb (at + width) (length field) ≡ b → isStructure (stepOf field at width) ≡ leb (at + width) (length field)
+    apart true e =
+        let fits = leb-true (at + width) (length field) e in
+        ap isStructure (sym (step-steps field at width h (omega arith))) ∙ sym e
+    apart false e =
+        let lacks = leb-false (at + width) (length field) e in
+        ap isStructure (sym (step-lacks field at width h (omega arith))) ∙ sym e
 
 -- what the answer of `stands`, as the code tests it, tells
 pub stands-here : (field : List ℕ) (at width : ℕ) (answer : Bool) → answer ≡ isStructure (stepOf field at width) → at < length field → not answer ≡ false

@@ -1,7 +1,7 @@
--- `command::fields::short_count` meets its contract, by the test of the byte. Assumes nothing.
+-- `field::fields::short_count` meets its contract, by the test of the byte. Assumes nothing.
 use borrow.Author.Tests.{eq-eqb, ne-eqb}
-use Rattle.command.proofs.fields.short_count.Statement.{statement}
-use Rattle.command.proofs.fields.short_count.Tie as tie
+use Rattle.field.proofs.fields.short_count.Statement.{statement}
+use Rattle.field.proofs.fields.short_count.Tie as tie
 
 returns : tie.Need-returns
 returns c = simp (eq-eqb _ _ (c .if1 .taken))

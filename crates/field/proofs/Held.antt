@@ -34,7 +34,7 @@ use denote.Triple.End.{lastsOf}
 use denote.Triple.Spec.{exits}
 use denote.Triple.Clauses.{Ended}
 use denote.Triple.Walked.{Stay, stay-none, stay-none-slice, Goes, goes-none, goes-none-slice}
-use Rattle.command.proofs.reader.Reader as T
+use Rattle.field.proofs.reader.Reader as T
 
 abbrev pub ReaderAt : Lfts 1 → RattleType
 ReaderAt κs = T.the-row (namedLft 1 0 tt κs)

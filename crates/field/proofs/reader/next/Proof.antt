@@ -1,4 +1,4 @@
--- `command::reader::next` meets its contract: a walk of its MIR, by hand. The struct is taken apart, and `step_at` is called on the slice and the two numbers. All that the proof knows of `step_at` is that it meets its contract.
+-- `field::reader::next` meets its contract: a walk of its MIR, by hand. The struct is taken apart, and `step_at` is called on the slice and the two numbers. All that the proof knows of `step_at` is that it meets its contract.
 -- The struct is Copy: what it owns is had twice, one copy is kept whole for the exit, and of the other what field owns goes to the callee, beside the lifetime's token, which comes back.
 -- Assumes nothing.
 use mathlib.Core.Path.{_≡_, refl}
@@ -37,22 +37,22 @@ use denote.Triple.Entry.{Vals, onEntry}
 use denote.Triple.Spec.{Meets, tripleOf}
 use denote.Triple.Table.{entered, cited}
 use denote.Triple.Walked.{says, Stays, walkOf, Walks, ends-at, walked, walk-meets}
-use Rattle.command.specs.Reading.{stepOf}
-use Rattle.command.specs.declared.reader.Reader.{Reader}
-use Rattle.command.specs.declared.reader.Step.{Step}
-use Rattle.command.proofs.Held.{ReaderAt, reader-stays, number-stays, field-val, reader-goes, number-goes, asks, numbered, answers}
-use Rattle.command.proofs.reader.Reader as T
-use Rattle.command.proofs.reader.Reader.Laws as T′
-use Rattle.command.proofs.reader.Step as S
-use Rattle.command.proofs.reader.Step.Laws as S′
-use Rattle.command.proofs.reader.step_at as step
-use Rattle.command.proofs.reader.step_at.Symbol as step-def
-use Rattle.command.proofs.reader.step_at.Symbol.{name as #step-at}
-use Rattle.command.proofs.reader.step_at.Met as step-thm
-use Rattle.command.proofs.reader.next.Key.{name as #next}
-use Rattle.command.proofs.reader.next as next
-use Rattle.command.proofs.reader.next.Statement as stated
-use Rattle.command.proofs.reader.next.Code as code
+use Rattle.field.specs.Reading.{stepOf}
+use Rattle.field.specs.declared.reader.Reader.{Reader}
+use Rattle.field.specs.declared.reader.Step.{Step}
+use Rattle.field.proofs.Held.{ReaderAt, reader-stays, number-stays, field-val, reader-goes, number-goes, asks, numbered, answers}
+use Rattle.field.proofs.reader.Reader as T
+use Rattle.field.proofs.reader.Reader.Laws as T′
+use Rattle.field.proofs.reader.Step as S
+use Rattle.field.proofs.reader.Step.Laws as S′
+use Rattle.field.proofs.reader.step_at as step
+use Rattle.field.proofs.reader.step_at.Symbol as step-def
+use Rattle.field.proofs.reader.step_at.Symbol.{name as #step-at}
+use Rattle.field.proofs.reader.step_at.Met as step-thm
+use Rattle.field.proofs.reader.next.Key.{name as #next}
+use Rattle.field.proofs.reader.next as next
+use Rattle.field.proofs.reader.next.Statement as stated
+use Rattle.field.proofs.reader.next.Code as code
 
 abbrev stayed : Stays (next.ended .signature .params) (next.ended .kept)
 stayed = (reader-stays, (number-stays, tt))
@@ -145,4 +145,4 @@ next-spec 𝓤 H 𝓜 𝓖 𝓡 =
     entered 𝓤 H (tripleOf 𝓤 H (𝓖 .A) next.signature (next.spec 𝓤 H (𝓖 .A) (𝓜 .mem) (𝓡 .run)))
     (tables 𝓤 H 𝓜 𝓡 code.env .C) (tables 𝓤 H 𝓜 𝓡 code.env .Λ) #next code.function (code.unfolded 𝓤 H 𝓜 𝓡)
     (next-meets 𝓤 H (𝓖 .A) (givenOf 𝓤 H 𝓜 𝓖) (𝓜 .mem) (𝓡 .run) (tablesOf 𝓤 H 𝓜 (tables 𝓤 H 𝓜 𝓡 code.env))
-    (cited 𝓤 H (StepAt 𝓤 H (𝓖 .A) (𝓜 .mem) (𝓡 .run)) 𝓜 𝓡 code.env #step-at step-def.routine code.calls-command·reader·step-at (step-thm.met 𝓤 H 𝓜 𝓖 𝓡)))
+    (cited 𝓤 H (StepAt 𝓤 H (𝓖 .A) (𝓜 .mem) (𝓡 .run)) 𝓜 𝓡 code.env #step-at step-def.routine code.calls-field·reader·step-at (step-thm.met 𝓤 H 𝓜 𝓖 𝓡)))

@@ -1,9 +1,9 @@
--- `command::reader::stands` meets its contract, by what the step is. Assumes nothing.
+-- `field::reader::stands` meets its contract, by what the step is. Assumes nothing.
 use mathlib.Core.Path.{ap, sym, _∙_}
-use Rattle.command.specs.Reading.{isStructure}
+use Rattle.field.specs.Reading.{isStructure}
 use borrow.Author.Needs.{needs}
-use Rattle.command.proofs.reader.stands.Statement.{statement}
-use Rattle.command.proofs.reader.stands.Tie as tie
+use Rattle.field.proofs.reader.stands.Statement.{statement}
+use Rattle.field.proofs.reader.stands.Tie as tie
 
 step-over-requires : tie.Need-step-over-requires
 step-over-requires c κs = search needs

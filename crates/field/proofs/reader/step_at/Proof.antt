@@ -1,9 +1,9 @@
--- `command::reader::step_at` meets its contract, by its two tests. Assumes nothing.
+-- `field::reader::step_at` meets its contract, by its two tests. Assumes nothing.
 use native.Mathlib.Omega.{arith}
 use borrow.Author.Needs.{needs}
-use Rattle.command.proofs.Steps.{step-ends, step-lacks, step-steps}
-use Rattle.command.proofs.reader.step_at.Statement.{statement}
-use Rattle.command.proofs.reader.step_at.Tie as tie
+use Rattle.field.proofs.Steps.{step-ends, step-lacks, step-steps}
+use Rattle.field.proofs.reader.step_at.Statement.{statement}
+use Rattle.field.proofs.reader.step_at.Tie as tie
 
 returns : tie.Need-returns
 returns c = step-ends _ _ _ (c .if1 .taken)

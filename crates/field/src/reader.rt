@@ -1,6 +1,6 @@
 // Walking a list of structures in a data field.
 ghost use mathlib.Core.Path.{_≡_};
-ghost use Rattle.command.specs.Reading.{stepOf, isStructure};
+ghost use Rattle.field.specs.Reading.{stepOf, isStructure};
 
 // What stands at a place of a list: a structure, with the place behind it; fewer bytes than a structure has; or the end.
 pub enum Step {

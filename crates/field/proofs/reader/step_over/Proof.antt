@@ -1,4 +1,4 @@
--- `command::reader::step_over` meets its contract: a walk of its MIR, by hand. The `Reader` that `new` returns is held in a local and passed to `next`. All that the proof knows of `new` and of `next` is that each meets its contract.
+-- `field::reader::step_over` meets its contract: a walk of its MIR, by hand. The `Reader` that `new` returns is held in a local and passed to `next`. All that the proof knows of `new` and of `next` is that each meets its contract.
 -- The machine value that `new` returns is stored and passed on as it is. In a local of a body MIR erases the lifetime of the struct's type, so the value is shown to have the type at `erased`: what the struct owns does not say the lifetime's name.
 -- Assumes nothing.
 use mathlib.Core.Path.{_≡_, refl, ap, _∙_}
@@ -33,26 +33,26 @@ use denote.Triple.Entry.{Vals, onEntry}
 use denote.Triple.Spec.{Meets, tripleOf}
 use denote.Triple.Table.{entered, cited}
 use denote.Triple.Walked.{says, Stays, walkOf, Walks, ends-at, walked, walk-meets}
-use Rattle.command.specs.Reading.{stepOf}
-use Rattle.command.specs.declared.reader.Reader.{Reader}
-use Rattle.command.specs.declared.reader.Step.{Step}
-use Rattle.command.proofs.Held.{ReaderAt, field-stays, number-stays, field-val, FieldOwn, field-goes, number-goes, field-twice, asks, numbered, answers}
-use Rattle.command.proofs.reader.Reader as T
-use Rattle.command.proofs.reader.Reader.Laws as T′
-use Rattle.command.proofs.reader.Step as S
-use Rattle.command.proofs.reader.Step.Laws as S′
-use Rattle.command.proofs.reader.new as new
-use Rattle.command.proofs.reader.new.Symbol as new-def
-use Rattle.command.proofs.reader.new.Symbol.{name as #new}
-use Rattle.command.proofs.reader.new.Met as new-thm
-use Rattle.command.proofs.reader.next as next
-use Rattle.command.proofs.reader.next.Symbol as next-def
-use Rattle.command.proofs.reader.next.Symbol.{name as #next}
-use Rattle.command.proofs.reader.next.Met as next-thm
-use Rattle.command.proofs.reader.step_over.Key.{name as #step-over}
-use Rattle.command.proofs.reader.step_over as over
-use Rattle.command.proofs.reader.step_over.Statement as stated
-use Rattle.command.proofs.reader.step_over.Code as code
+use Rattle.field.specs.Reading.{stepOf}
+use Rattle.field.specs.declared.reader.Reader.{Reader}
+use Rattle.field.specs.declared.reader.Step.{Step}
+use Rattle.field.proofs.Held.{ReaderAt, field-stays, number-stays, field-val, FieldOwn, field-goes, number-goes, field-twice, asks, numbered, answers}
+use Rattle.field.proofs.reader.Reader as T
+use Rattle.field.proofs.reader.Reader.Laws as T′
+use Rattle.field.proofs.reader.Step as S
+use Rattle.field.proofs.reader.Step.Laws as S′
+use Rattle.field.proofs.reader.new as new
+use Rattle.field.proofs.reader.new.Symbol as new-def
+use Rattle.field.proofs.reader.new.Symbol.{name as #new}
+use Rattle.field.proofs.reader.new.Met as new-thm
+use Rattle.field.proofs.reader.next as next
+use Rattle.field.proofs.reader.next.Symbol as next-def
+use Rattle.field.proofs.reader.next.Symbol.{name as #next}
+use Rattle.field.proofs.reader.next.Met as next-thm
+use Rattle.field.proofs.reader.step_over.Key.{name as #step-over}
+use Rattle.field.proofs.reader.step_over as over
+use Rattle.field.proofs.reader.step_over.Statement as stated
+use Rattle.field.proofs.reader.step_over.Code as code
 
 abbrev stayed : Stays (over.ended .signature .params) (over.ended .kept)
 stayed = (field-stays, (number-stays, (number-stays, tt)))
@@ -140,5 +140,5 @@ step-over-spec 𝓤 H 𝓜 𝓖 𝓡 =
     entered 𝓤 H (tripleOf 𝓤 H (𝓖 .A) over.signature (over.spec 𝓤 H (𝓖 .A) (𝓜 .mem) (𝓡 .run)))
     (tables 𝓤 H 𝓜 𝓡 code.env .C) (tables 𝓤 H 𝓜 𝓡 code.env .Λ) #step-over code.function (code.unfolded 𝓤 H 𝓜 𝓡)
     (over-meets 𝓤 H (𝓖 .A) (givenOf 𝓤 H 𝓜 𝓖) (𝓜 .mem) (𝓡 .run) (tablesOf 𝓤 H 𝓜 (tables 𝓤 H 𝓜 𝓡 code.env))
-    (cited 𝓤 H (New 𝓤 H (𝓖 .A) (𝓜 .mem) (𝓡 .run)) 𝓜 𝓡 code.env #new new-def.routine code.calls-command·reader·new (new-thm.met 𝓤 H 𝓜 𝓖 𝓡))
-    (cited 𝓤 H (Next 𝓤 H (𝓖 .A) (𝓜 .mem) (𝓡 .run)) 𝓜 𝓡 code.env #next next-def.routine code.calls-command·reader·next (next-thm.met 𝓤 H 𝓜 𝓖 𝓡)))
+    (cited 𝓤 H (New 𝓤 H (𝓖 .A) (𝓜 .mem) (𝓡 .run)) 𝓜 𝓡 code.env #new new-def.routine code.calls-field·reader·new (new-thm.met 𝓤 H 𝓜 𝓖 𝓡))
+    (cited 𝓤 H (Next 𝓤 H (𝓖 .A) (𝓜 .mem) (𝓡 .run)) 𝓜 𝓡 code.env #next next-def.routine code.calls-field·reader·next (next-thm.met 𝓤 H 𝓜 𝓖 𝓡)))

@@ -1,4 +1,4 @@
--- `command::reader::new` meets its contract: a walk of its MIR, by hand. A `Reader` is made of the slice and the number passed, in the result's local.
+-- `field::reader::new` meets its contract: a walk of its MIR, by hand. A `Reader` is made of the slice and the number passed, in the result's local.
 -- A `&[u8]` is Copy, so what it owns is had twice: once for field at exit, and once inside the result, beside the facts of at.
 -- Assumes nothing.
 use mathlib.Core.Path.{refl}
@@ -32,14 +32,14 @@ use denote.Triple.Entry.{Vals, onEntry}
 use denote.Triple.Spec.{Meets, tripleOf}
 use denote.Triple.Table.{entered}
 use denote.Triple.Walked.{says, Stays, walkOf, Walks, ends-at, walked, walk-meets}
-use Rattle.command.specs.declared.reader.Reader.{Reader}
-use Rattle.command.proofs.Held.{field-stays, number-stays, field-val, FieldOwn, field-goes, number-goes, field-twice, numbered}
-use Rattle.command.proofs.reader.Reader as T
-use Rattle.command.proofs.reader.Reader.Laws as T′
-use Rattle.command.proofs.reader.new.Key.{name as #new}
-use Rattle.command.proofs.reader.new as new
-use Rattle.command.proofs.reader.new.Statement as stated
-use Rattle.command.proofs.reader.new.Code as code
+use Rattle.field.specs.declared.reader.Reader.{Reader}
+use Rattle.field.proofs.Held.{field-stays, number-stays, field-val, FieldOwn, field-goes, number-goes, field-twice, numbered}
+use Rattle.field.proofs.reader.Reader as T
+use Rattle.field.proofs.reader.Reader.Laws as T′
+use Rattle.field.proofs.reader.new.Key.{name as #new}
+use Rattle.field.proofs.reader.new as new
+use Rattle.field.proofs.reader.new.Statement as stated
+use Rattle.field.proofs.reader.new.Code as code
 
 abbrev stayed : Stays (new.ended .signature .params) (new.ended .kept)
 stayed = (field-stays, (number-stays, tt))
