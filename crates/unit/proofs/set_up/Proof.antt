@@ -1,0 +1,52 @@
+-- `unit::set_up` meets its contract: refused, or all sums computed. Assumes nothing.
+use Rattle.unit.proofs.Serving.{set-up-refused, set-up-served}
+use mathlib.Core.Path.{_≡_, sym, ap, _∙_}
+use Rattle.unit.specs.World.{world, outcome, withSums, lengthsOf}
+use Rattle.unit.specs.Steps.{nobody, unless, setUpOf}
+use Rattle.unit.proofs.Serving.{a-served-set-up-fits}
+use borrow.Author.Needs.{needs}
+use Rattle.unit.proofs.set_up.Statement.{statement}
+use Rattle.unit.proofs.set_up.Tie as tie
+
+set-up-fit-requires : tie.Need-set-up-fit-requires
+set-up-fit-requires c κs = search needs
+
+enum-known-fit : tie.Need-enum-known-fit
+enum-known-fit c = search needs
+
+enum-told : tie.Need-enum-told
+enum-told c = search needs
+
+compute-sums-requires : tie.Need-compute-sums-requires
+compute-sums-requires c κs =
+    let a = c .before .before .before .before .before .before .before .before .before .before .args in
+    a-served-set-up-fits (a .address) (world (a .edac .now) (a .fram .now) (a .sums .now) (a .diagnostics .now) (a .message .now) (a .reply .now))
+    (sym (c .before .before .before .set-up-fit .ensures) ∙ c .before .enum-told .given .1) .sums-fit
+
+returns : tie.Need-returns
+returns c =
+    let a = c .before .before .before .before .before .before .before .before .before .before .args in
+    set-up-refused (a .address) (world (a .edac .now) (a .fram .now) (a .sums .now) (a .diagnostics .now) (a .message .now) (a .reply .now)) _
+    (sym (c .before .before .before .set-up-fit .ensures) ∙ c .before .fit .given .1)
+
+same-length : tie.Need-same-length
+same-length c = search needs
+
+returns-2 : tie.Need-returns-2
+returns-2 c =
+    let a = c .before .before .before .before .before .before .before .before .before .before .before .before .before .args in
+    set-up-served (a .address) (world (a .edac .now) (a .fram .now) (a .sums .now) (a .diagnostics .now) (a .message .now) (a .reply .now)) _
+    (sym (c .before .before .before .before .before .before .set-up-fit .ensures) ∙ c .before .before .before .before .enum-told .given .1)
+    (c .before .before .compute-sums .ensures)
+
+pub set-up-spec : {M : Type 1} → statement M
+set-up-spec =
+    tie.close
+    (tie.spec
+    set-up-fit-requires
+    enum-known-fit
+    enum-told
+    compute-sums-requires
+    returns
+    same-length
+    returns-2)
