@@ -1,0 +1,3 @@
+pub mod Cases
+pub mod DemandOne
+pub mod DemandThree

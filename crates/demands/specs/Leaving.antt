@@ -1,0 +1,32 @@
+-- What each answer leaves: 01, "One byte in, one answer out". Assumes nothing.
+use mathlib.Core.Path.{_≡_}
+use Prim.Native.Nat.{ℕ, _+_, _≤_, _<_}
+use mathlib.Core.Bool.{cond, _&&_}
+use mathlib.Core.List.{List}
+use lib.Dec.{leb}
+use lib.ListN.{take}
+use Rattle.memory.specs.Bytes.{begun}
+use Rattle.memory.specs.Counts.{countedUp}
+use Rattle.unit.specs.declared.Unit.{Unit}
+use Rattle.unit.specs.declared.Answer.{Answer}
+use Rattle.unit.specs.Answers.{numberOf, sentOf}
+use Rattle.unit.specs.World.{World, Outcome}
+
+-- 5 to 8 each add one to diagnostic 0x07, 0x08, 0x09, 0x0A in that order. No other answer moves a diagnostic.
+abbrev pub countsAfter : Answer → List ℕ → List ℕ
+countsAfter answer diagnostics =
+    cond (leb 5 (numberOf answer) && leb (numberOf answer) 8) (countedUp diagnostics (numberOf answer + 2)) diagnostics
+
+-- What any call leaves, by its answer.
+pub record Leaves (u : Unit) (w : World) (o : Outcome) : Type 0 where
+  -- 20 to 26 change nothing at all.
+  pub nothing-by-a-refused-call : 20 ≤ numberOf (o .answer) → (o .unit ≡ u) × (o .world ≡ w)
+  -- 3 to 10 leave EDAC, FRAM, sums and mode unchanged, and so do 20 to 26.
+  pub memory-by-a-failed-command : 3 ≤ numberOf (o .answer)
+      → (o .world .edac ≡ w .edac) × (o .world .fram ≡ w .fram) × (o .world .sums ≡ w .sums) × (o .unit .mode ≡ u .mode)
+  pub counts : o .world .diagnostics ≡ countsAfter (o .answer) (w .diagnostics)
+  -- A sent reply is the written first part of the reply buffer; its other bytes, and the whole buffer where nothing is sent, are
+  -- unchanged.
+  pub reply : o .world .reply ≡ begun (w .reply) (take (sentOf (o .answer)) (o .world .reply))
+  pub address : o .unit .address ≡ u .address
+  pub fram-length : o .unit .«fram_len» ≡ u .«fram_len»
