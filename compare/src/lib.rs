@@ -1,7 +1,10 @@
-//! The proved code as Rust calls it, beside plain Rust that was written from ICD 10.8 and 01 alone.
+//! The proved code as Rust calls it, beside plain Rust that was written from the ICD and 01 alone.
 
 pub mod plain;
 pub mod proved;
+pub mod record;
+pub mod second;
+pub mod wheel;
 
 /// A stretch of bytes by its sum and its length alone.
 #[derive(Clone, Copy, Debug, PartialEq, Eq)]
