@@ -1,5 +1,6 @@
 //! The proved code as Rust calls it, beside plain Rust that was written from the ICD and 01 alone.
 
+pub mod differ;
 pub mod plain;
 pub mod proved;
 pub mod record;
@@ -27,5 +28,18 @@ impl Seeded {
 
     pub fn bytes(&mut self, length: usize) -> Vec<u8> {
         (0..length).map(|_| self.number() as u8).collect()
+    }
+
+    /// A number below n.
+    pub fn below(&mut self, n: usize) -> usize {
+        (self.number() % n as u64) as usize
+    }
+
+    pub fn one_in(&mut self, n: usize) -> bool {
+        self.below(n) == 0
+    }
+
+    pub fn pick<T: Copy>(&mut self, from: &[T]) -> T {
+        from[self.below(from.len())]
     }
 }
