@@ -302,13 +302,16 @@ fn packing(pair: &mut Pair, seeded: &mut Seeded) -> Played {
     pair.pack(&message, reply)
 }
 
-/// Lengths of all sizes, and every other time long ones, so that many are refused.
+/// Lengths of all sizes, long ones often, so that many are refused, and pairs about the longest total.
 fn joining(pair: &mut Pair, seeded: &mut Seeded) -> Played {
     let sizes = seeded.pick(&[2, 32]);
     let mut part = || Part {
         sum: seeded.number() as u16,
         len: seeded.number() as u32 >> seeded.below(sizes),
     };
-    let (first, second) = (part(), part());
+    let (first, mut second) = (part(), part());
+    if seeded.one_in(3) {
+        second.len = (u32::MAX - first.len).saturating_add(seeded.below(2) as u32);
+    }
     pair.join(first, second)
 }

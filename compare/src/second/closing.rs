@@ -1,8 +1,8 @@
 //! 01, The line and The message (ICD 10): the tests at the close of a run, and the reply.
 
 use super::command::{self, Memory, No};
+use super::crc;
 use super::line::{self, Run, LONGEST};
-use super::{crc, refusals};
 use crate::record::Record;
 
 /// The fewest bytes of a message: two addresses, control and CRC (ICD 10.2).
@@ -107,6 +107,5 @@ fn send(command: &[u8], ack: u8, data: &[u8], reply: &mut [u8]) -> usize {
     let mut message = vec![command[1], command[0], control];
     message.extend(data);
     message.extend(crc::sum(&message).to_le_bytes());
-    debug_assert!(message.len() <= LONGEST && reply.len() >= refusals::REPLY_LEN);
     line::pack(&message, reply)
 }
