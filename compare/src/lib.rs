@@ -5,6 +5,8 @@ pub mod plain;
 pub mod proved;
 pub mod record;
 pub mod second;
+#[cfg(feature = "unit")]
+pub mod unit;
 pub mod wheel;
 
 /// A stretch of bytes by its sum and its length alone.

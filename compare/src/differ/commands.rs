@@ -133,6 +133,11 @@ fn address(offset: i64) -> [u8; 4] {
 }
 
 fn peek(seeded: &mut Seeded, fram_len: usize) -> Vec<u8> {
+    if seeded.one_in(12) {
+        let start = seeded.below(1 + fram_len.saturating_sub(1_024));
+        let count = 1_023 + seeded.below(3) as u16;
+        return [&address(start as i64)[..], &count.to_le_bytes()].concat();
+    }
     let (start, count) = fram_range(seeded, fram_len);
     let mut data = address(start).to_vec();
     if seeded.one_in(3) {
@@ -169,12 +174,15 @@ fn crc(seeded: &mut Seeded, fram_len: usize) -> Vec<u8> {
 }
 
 fn diagnostic(seeded: &mut Seeded) -> Vec<u8> {
-    let length = length(seeded, 205);
+    let length = match seeded.below(6) {
+        0 => 204 + seeded.below(3),
+        _ => length(seeded, 205),
+    };
     let mut channels: Vec<u8> = (0..length).map(|_| seeded.below(31) as u8).collect();
     if seeded.one_in(8) && length > 0 {
         channels[seeded.below(length)] = seeded.pick(&[0x1F, 0x20, 0x80, 0xFF]);
     }
-    if seeded.one_in(4) {
+    if seeded.one_in(4) && length <= 201 {
         channels.extend([0x07, 0x08, 0x09, 0x0A]);
     }
     channels
@@ -232,8 +240,22 @@ fn write_file(seeded: &mut Seeded) -> Vec<u8> {
     data
 }
 
-/// An EDAC range: anywhere, about the end, or about the mode's byte.
+/// An EDAC range: anywhere, about the end, about the mode's byte, or as 01's table of edges has it.
 fn edac_range(seeded: &mut Seeded) -> (u16, usize) {
+    if seeded.one_in(10) {
+        return seeded.pick(&[
+            (510, 1_026),
+            (511, 1_026),
+            (0, 1_026),
+            (0, 1_027),
+            (512, 1_024),
+            (513, 1_024),
+            (0, 1_025),
+            (1_535, 1),
+            (1_535, 2),
+            (1_536, 1),
+        ]);
+    }
     let start = match seeded.below(10) {
         0 => 0,
         1 => 509 + seeded.below(4),

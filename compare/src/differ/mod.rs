@@ -13,7 +13,6 @@ mod tally;
 use crate::wheel::Wheel;
 use crate::Seeded;
 use pair::Pair;
-use std::panic::{catch_unwind, AssertUnwindSafe};
 pub use tally::Tally;
 
 /// Where two wheels part, so that it can be had again: the session's seed and the line bytes fed before the call.
@@ -24,7 +23,7 @@ pub struct Difference {
     pub what: String,
 }
 
-/// One session. A wheel that panics differs from any other, since no call of 01's may halt.
+/// One session.
 pub fn session(
     first: &dyn Wheel,
     second: &dyn Wheel,
@@ -33,17 +32,9 @@ pub fn session(
 ) -> Result<(), Difference> {
     let mut seeded = Seeded(seed.wrapping_mul(0x2545_F491_4F6C_DD1D));
     let mut pair = Pair::new(first, second, &mut seeded, tally);
-    let played = catch_unwind(AssertUnwindSafe(|| play::play(&mut pair, &mut seeded)));
+    let played = play::play(&mut pair, &mut seeded);
     let offset = pair.offset;
-    match played {
-        Ok(Ok(())) => Ok(()),
-        Ok(Err(what)) => Err(Difference { seed, offset, what }),
-        Err(_) => Err(Difference {
-            seed,
-            offset,
-            what: "a wheel panicked".to_string(),
-        }),
-    }
+    played.map_err(|what| Difference { seed, offset, what })
 }
 
 /// Sessions from a seed on until so many line bytes are fed.

@@ -4,6 +4,7 @@ use super::tally::Tally;
 use crate::record::{Record, REFUSED};
 use crate::wheel::{Lent, Wheel};
 use crate::{Part, Seeded};
+use std::panic::{catch_unwind, AssertUnwindSafe};
 
 const FEND: u8 = 0xC0;
 
@@ -96,9 +97,12 @@ impl<'a> Pair<'a> {
         let code = self.sides[0].message[2] & 0x1F;
         let (record, lengths) = (self.record, self.lengths);
         let [left, right] = &mut self.sides;
-        let one = self.first.step(record, byte, lent(left, &lengths));
-        let two = self.second.step(record, byte, lent(right, &lengths));
         let call = || format!("byte {byte:#04x}, {record:?}, {lengths:?}");
+        let one = returned(|| self.first.step(record, byte, lent(left, &lengths)), call)?;
+        let two = returned(
+            || self.second.step(record, byte, lent(right, &lengths)),
+            call,
+        )?;
         agree(one, two, call)?;
         if byte == FEND || one.answer != 0 {
             same_buffers(left, right, call)?;
@@ -119,9 +123,9 @@ impl<'a> Pair<'a> {
     pub fn set_up(&mut self, address: u8) -> Result<u8, String> {
         let lengths = self.lengths;
         let [left, right] = &mut self.sides;
-        let one = self.first.set_up(address, lent(left, &lengths));
-        let two = self.second.set_up(address, lent(right, &lengths));
         let call = || format!("set-up of {address:#04x}, {lengths:?}");
+        let one = returned(|| self.first.set_up(address, lent(left, &lengths)), call)?;
+        let two = returned(|| self.second.set_up(address, lent(right, &lengths)), call)?;
         agree(one, two, call)?;
         same_buffers(left, right, call)?;
         self.tally.set_ups.add(one.answer);
@@ -131,9 +135,12 @@ impl<'a> Pair<'a> {
 
     pub fn pack(&mut self, message: &[u8], reply: usize) -> Result<(), String> {
         let [left, right] = &mut self.sides;
-        let one = self.first.pack(message, &mut left.reply[..reply]);
-        let two = self.second.pack(message, &mut right.reply[..reply]);
         let call = || format!("packing {message:x?} into {reply}");
+        let one = returned(|| self.first.pack(message, &mut left.reply[..reply]), call)?;
+        let two = returned(
+            || self.second.pack(message, &mut right.reply[..reply]),
+            call,
+        )?;
         agree(one, two, call)?;
         same_buffers(left, right, call)?;
         self.tally.packed.add(one.0);
@@ -141,8 +148,10 @@ impl<'a> Pair<'a> {
     }
 
     pub fn join(&mut self, a: Part, b: Part) -> Result<(), String> {
-        let (one, two) = (self.first.join(a, b), self.second.join(a, b));
-        agree(one, two, || format!("joining {a:?} and {b:?}"))?;
+        let call = || format!("joining {a:?} and {b:?}");
+        let one = returned(|| self.first.join(a, b), call)?;
+        let two = returned(|| self.second.join(a, b), call)?;
+        agree(one, two, call)?;
         self.tally.joined.add(one.err().unwrap_or(0));
         Ok(())
     }
@@ -169,6 +178,11 @@ fn lent<'a>(cells: &'a mut Buffers, lengths: &Lengths) -> Lent<'a> {
         message: &mut cells.message[..lengths.message],
         reply: &mut cells.reply[..lengths.reply],
     }
+}
+
+/// What a call hands back. A wheel that panics differs from any other, since no call may halt.
+fn returned<T>(wheel: impl FnOnce() -> T, call: impl Fn() -> String) -> Result<T, String> {
+    catch_unwind(AssertUnwindSafe(wheel)).map_err(|_| format!("{}\n  a wheel panicked", call()))
 }
 
 fn agree<T: PartialEq + std::fmt::Debug>(

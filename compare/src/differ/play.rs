@@ -20,7 +20,8 @@ pub fn play(pair: &mut Pair, seeded: &mut Seeded) -> Played {
     set_up(pair, seeded)?;
     while pair.offset < BYTES {
         match seeded.below(64) {
-            0..=35 => sound_run(pair, seeded)?,
+            0..=31 => sound_run(pair, seeded)?,
+            32..=35 => repeated(pair, seeded)?,
             36..=43 => spoiled_run(pair, seeded)?,
             44..=46 => pair.bytes(&lines::noise(seeded))?,
             47..=50 => planted(pair, seeded)?,
@@ -86,6 +87,16 @@ fn run(pair: &mut Pair, seeded: &mut Seeded, line: &[u8]) -> Played {
 
 fn sound_run(pair: &mut Pair, seeded: &mut Seeded) -> Played {
     let message = lines::message(seeded, &pair.record);
+    run(pair, seeded, &lines::escaped(&message))
+}
+
+/// The same command twice: where it stores, the second time it stores what is there. Its sums may have been altered.
+fn repeated(pair: &mut Pair, seeded: &mut Seeded) -> Played {
+    let message = lines::message(seeded, &pair.record);
+    run(pair, seeded, &lines::escaped(&message))?;
+    if seeded.one_in(2) {
+        pair.alter(|lent| lent.sums.iter_mut().for_each(|sum| *sum ^= 0x0101));
+    }
     run(pair, seeded, &lines::escaped(&message))
 }
 
@@ -260,12 +271,17 @@ fn spoil_record(pair: &mut Pair, seeded: &mut Seeded, right: &Lengths) {
 /// Makes a length wrong, given the right ones.
 fn spoil_length(pair: &mut Pair, seeded: &mut Seeded, right: &Lengths) {
     let (lengths, fram, sums) = (&mut pair.lengths, right.fram, right.sums);
-    match seeded.below(6) {
+    match seeded.below(7) {
         0 => lengths.edac = seeded.pick(&[0, 1, 384, 1_535, 1_537, 2_048]),
         1 => lengths.fram = seeded.pick(&[0, fram - 256, fram - 1, fram + 1, fram + 256]),
         2 => lengths.sums = seeded.pick(&[0, sums - 1, sums + 1, sums + sums.min(256)]),
         3 => lengths.diagnostics = seeded.pick(&[0, 30, 32, 124]),
         4 => lengths.message = seeded.pick(&[0, 4, 1_032]),
+        // FRAM and sums agree on a block more or less.
+        5 => {
+            lengths.fram = seeded.pick(&[fram - 256, fram + 256]);
+            lengths.sums = lengths.fram / 256;
+        }
         _ => lengths.reply = seeded.pick(&[0, 1_033, 2_067]),
     }
 }
