@@ -11,7 +11,7 @@ mod mistakes {
 }
 
 /// Line bytes within which each mistake must show.
-const BYTES: u64 = 4_000_000;
+const BYTES: u64 = 2_000_000;
 
 /// A wheel that panics says so, which is no news here.
 fn quietly<T>(work: impl FnOnce() -> T) -> T {

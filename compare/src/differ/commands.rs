@@ -27,7 +27,7 @@ pub fn command(seeded: &mut Seeded, record: &Record) -> (u8, Vec<u8>) {
         _ => any_data(seeded),
     };
     // A data field that is one byte too short or too long, now and then.
-    match seeded.below(24) {
+    match seeded.below(20) {
         0 => drop(data.pop()),
         1 => data.push(seeded.number() as u8),
         _ => {}
@@ -217,7 +217,10 @@ fn read_file(seeded: &mut Seeded) -> Vec<u8> {
     if seeded.one_in(4) {
         return filling(seeded);
     }
-    let length = length(seeded, 206) - usize::from(seeded.one_in(6));
+    let length = match seeded.below(12) {
+        0 => 0,
+        _ => length(seeded, 206),
+    };
     (0..length).map(|_| file(seeded)).collect()
 }
 
@@ -242,7 +245,7 @@ fn write_file(seeded: &mut Seeded) -> Vec<u8> {
 
 /// An EDAC range: anywhere, about the end, about the mode's byte, or as 01's table of edges has it.
 fn edac_range(seeded: &mut Seeded) -> (u16, usize) {
-    if seeded.one_in(10) {
+    if seeded.one_in(5) {
         return seeded.pick(&[
             (510, 1_026),
             (511, 1_026),

@@ -31,7 +31,7 @@ pub fn session(
     tally: &mut Tally,
 ) -> Result<(), Difference> {
     let mut seeded = Seeded(seed.wrapping_mul(0x2545_F491_4F6C_DD1D));
-    let mut pair = Pair::new(first, second, &mut seeded, tally);
+    let mut pair = Pair::new(first, second, seed, &mut seeded, tally);
     let played = play::play(&mut pair, &mut seeded);
     let offset = pair.offset;
     played.map_err(|what| Difference { seed, offset, what })

@@ -43,12 +43,15 @@ pub struct Pair<'a> {
     pub offset: u64,
 }
 
-/// FRAM sizes: mostly small, so that whole buffers are quickly compared, and the largest now and then.
-fn fram_len(seeded: &mut Seeded) -> usize {
-    match seeded.below(48) {
-        0 => 262_144,
-        1 => 65_536,
-        2..=5 => 256 * (1 + seeded.below(64)),
+/// The largest FRAM that may be fitted.
+pub const LARGEST: usize = 262_144;
+
+/// FRAM sizes: mostly small, so that whole buffers are quickly compared, and the largest in every 32nd session.
+fn fram_len(seed: u64, seeded: &mut Seeded) -> usize {
+    match seed % 32 {
+        31 => LARGEST,
+        30 => 256 * (1 + seeded.below(1_024)),
+        27..=29 => 256 * (1 + seeded.below(64)),
         _ => 256 * (1 + seeded.below(6)),
     }
 }
@@ -57,10 +60,11 @@ impl<'a> Pair<'a> {
     pub fn new(
         first: &'a dyn Wheel,
         second: &'a dyn Wheel,
+        seed: u64,
         seeded: &mut Seeded,
         tally: &'a mut Tally,
     ) -> Pair<'a> {
-        let fram = fram_len(seeded);
+        let fram = fram_len(seed, seeded);
         let lengths = Lengths {
             edac: 1_536,
             fram,

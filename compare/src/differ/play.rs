@@ -1,6 +1,6 @@
 //! A session: a unit is set up, and then messages, noise, and callers who alter what they lend or lend it wrongly.
 
-use super::pair::{Lengths, Pair};
+use super::pair::{Lengths, Pair, LARGEST};
 use super::{commands, lines};
 use crate::record::{Mode, Place, Record};
 use crate::{Part, Seeded};
@@ -10,15 +10,28 @@ const FESC: u8 = 0xDB;
 
 type Played = Result<(), String>;
 
-/// Line bytes of a session.
-const BYTES: u64 = 32_768;
+/// Line bytes of a session. A large FRAM takes long to compare, so its sessions are short.
+fn bytes_with(fram_len: usize) -> u64 {
+    if fram_len > LARGE {
+        8_192
+    } else {
+        32_768
+    }
+}
+
+/// Above this an FRAM is set up and compared seldom.
+const LARGE: usize = 16_384;
 
 pub fn play(pair: &mut Pair, seeded: &mut Seeded) -> Played {
     if seeded.one_in(4) {
         refused_set_up(pair, seeded)?;
     }
     set_up(pair, seeded)?;
-    while pair.offset < BYTES {
+    if pair.lengths.fram == LARGEST {
+        one_block_too_many(pair)?;
+    }
+    let bytes = bytes_with(pair.lengths.fram);
+    while pair.offset < bytes {
         match seeded.below(64) {
             0..=31 => sound_run(pair, seeded)?,
             32..=35 => repeated(pair, seeded)?,
@@ -51,9 +64,21 @@ fn set_up(pair: &mut Pair, seeded: &mut Seeded) -> Played {
     Ok(())
 }
 
+/// More FRAM than may be fitted, on which record, slice and sums agree.
+fn one_block_too_many(pair: &mut Pair) -> Played {
+    let (lengths, record) = (pair.lengths, pair.record);
+    pair.lengths.fram += 256;
+    pair.lengths.sums += 1;
+    pair.record.fram_len += 256;
+    pair.byte(FEND)?;
+    pair.set_up(record.address)?;
+    (pair.lengths, pair.record) = (lengths, record);
+    Ok(())
+}
+
 /// A set-up in the midst of it all. A large FRAM's sums take long, so there it comes seldom.
 fn another_set_up(pair: &mut Pair, seeded: &mut Seeded) -> Played {
-    if pair.lengths.fram > 16_384 && !seeded.one_in(16) {
+    if pair.lengths.fram > LARGE && !seeded.one_in(16) {
         return Ok(());
     }
     if seeded.one_in(2) {
@@ -148,7 +173,7 @@ fn altered_memory(pair: &mut Pair, seeded: &mut Seeded) {
         0 => altered_counts(pair, seeded),
         1 => {
             let at = seeded.below(pair.lengths.sums);
-            let sum = seeded.pick(&[0x0000, 0xFFFF, seeded.0 as u16]);
+            let sum = seeded.number() as u16;
             pair.alter(|lent| lent.sums[at] = sum);
         }
         2 => pair.alter(|lent| lent.sums.fill(u16::from(byte) * 0x0101)),
@@ -208,7 +233,7 @@ fn altered_record(pair: &mut Pair, seeded: &mut Seeded) -> Played {
 
 /// From now on the caller lends an FRAM of another length, and its record says so.
 fn another_fram(pair: &mut Pair, seeded: &mut Seeded) {
-    if pair.lengths.fram > 16_384 {
+    if pair.lengths.fram > LARGE {
         return;
     }
     let blocks = 1 + seeded.below(pair.blocks());
@@ -308,9 +333,9 @@ fn refused_set_up(pair: &mut Pair, seeded: &mut Seeded) -> Played {
 }
 
 fn packing(pair: &mut Pair, seeded: &mut Seeded) -> Played {
-    let length = match seeded.below(3) {
-        0 => seeded.below(8),
-        1 => 1_031 + seeded.below(5),
+    let length = match seeded.below(4) {
+        0 => seeded.pick(&[0, 3, 4, 5, 6]),
+        1 => 1_032 + seeded.below(4),
         _ => seeded.below(1_100),
     };
     let message = commands::bytes(seeded, length);
