@@ -1,7 +1,13 @@
-//! The proved code as Rust calls it, beside plain Rust that was written from ICD 10.8 and 01 alone.
+//! The proved code as Rust calls it, beside plain Rust that was written from the ICD and 01 alone.
 
+pub mod differ;
 pub mod plain;
 pub mod proved;
+pub mod record;
+pub mod second;
+#[cfg(feature = "unit")]
+pub mod unit;
+pub mod wheel;
 
 /// A stretch of bytes by its sum and its length alone.
 #[derive(Clone, Copy, Debug, PartialEq, Eq)]
@@ -24,5 +30,18 @@ impl Seeded {
 
     pub fn bytes(&mut self, length: usize) -> Vec<u8> {
         (0..length).map(|_| self.number() as u8).collect()
+    }
+
+    /// A number below n.
+    pub fn below(&mut self, n: usize) -> usize {
+        (self.number() % n as u64) as usize
+    }
+
+    pub fn one_in(&mut self, n: usize) -> bool {
+        self.below(n) == 0
+    }
+
+    pub fn pick<T: Copy>(&mut self, from: &[T]) -> T {
+        from[self.below(from.len())]
     }
 }

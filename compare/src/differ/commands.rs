@@ -1,0 +1,311 @@
+//! Commands at the edges of their fields: a code and its data, mostly such that a unit takes it or only just refuses it.
+
+use crate::record::{Mode, Record};
+use crate::Seeded;
+
+const FIRST: i64 = 0x2004_0000;
+const APPLICATION: [u8; 4] = [0x00, 0x00, 0x05, 0x20];
+
+/// The most data that a sound message has.
+const MOST: usize = 1_028;
+
+/// A code and its data for a unit with this record.
+pub fn command(seeded: &mut Seeded, record: &Record) -> (u8, Vec<u8>) {
+    let code = code(seeded, record.mode);
+    let mut data = match code {
+        0x00 => any_data(seeded),
+        0x01 => init(seeded, record.mode),
+        0x02 => peek(seeded, record.fram_len),
+        0x03 => poke(seeded, record.fram_len),
+        0x04 => diagnostic(seeded),
+        0x06 => crc(seeded, record.fram_len),
+        0x07 => read_file(seeded),
+        0x08 => write_file(seeded),
+        0x09 => read_edac(seeded),
+        0x0A => write_edac(seeded),
+        0x0B => gather(seeded),
+        _ => any_data(seeded),
+    };
+    // A data field that is one byte too short or too long, now and then.
+    match seeded.below(20) {
+        0 => drop(data.pop()),
+        1 => data.push(seeded.number() as u8),
+        _ => {}
+    }
+    data.truncate(MOST);
+    (code, data)
+}
+
+/// From the bootloader the way into application mode is taken often, since most commands need it.
+fn code(seeded: &mut Seeded, mode: Mode) -> u8 {
+    if mode == Mode::Bootloader && seeded.one_in(4) {
+        return 0x01;
+    }
+    match seeded.below(16) {
+        0 => seeded.below(32) as u8,
+        _ => seeded.pick(&[
+            0x00, 0x01, 0x02, 0x02, 0x03, 0x03, 0x03, 0x04, 0x05, 0x06, 0x06, 0x06, 0x07, 0x07,
+            0x08, 0x08, 0x08, 0x09, 0x09, 0x0A, 0x0A, 0x0B, 0x0B,
+        ]),
+    }
+}
+
+/// Bytes of one kind or another: any, the line's own special ones, or all alike.
+pub fn bytes(seeded: &mut Seeded, length: usize) -> Vec<u8> {
+    match seeded.below(8) {
+        0 => vec![seeded.pick(&[0x00, 0xFF, 0xC0, 0xDB, 0xDC, 0xDD]); length],
+        1 | 2 => (0..length)
+            .map(|_| seeded.pick(&[0xC0, 0xDB, 0xDC, 0xDD, 0x00, 0x41]))
+            .collect(),
+        _ => seeded.bytes(length),
+    }
+}
+
+/// Mostly a few, and now and then as many as there may be, or one more or less.
+fn length(seeded: &mut Seeded, most: usize) -> usize {
+    match seeded.below(12) {
+        0 => most + seeded.below(3) - 1,
+        1 => 1 + seeded.below(most),
+        2 => 250 + seeded.below(12),
+        _ => 1 + seeded.below(12),
+    }
+}
+
+fn any_data(seeded: &mut Seeded) -> Vec<u8> {
+    let length = match seeded.below(3) {
+        0 => 0,
+        _ => length(seeded, MOST),
+    };
+    bytes(seeded, length)
+}
+
+fn init(seeded: &mut Seeded, mode: Mode) -> Vec<u8> {
+    let mut address = APPLICATION.to_vec();
+    match (seeded.below(8), mode) {
+        (0..=3, Mode::Bootloader) | (0..=4, Mode::Application) => address,
+        (4 | 5, _) => Vec::new(),
+        (6, _) => {
+            address[seeded.below(4)] ^= 1 << seeded.below(8);
+            address
+        }
+        _ => {
+            let length = seeded.below(9);
+            bytes(seeded, length)
+        }
+    }
+}
+
+/// A place at or about the edges of blocks and of the FRAM, as an offset from its first byte.
+fn fram_edge(seeded: &mut Seeded, fram_len: usize) -> i64 {
+    let edge = match seeded.below(8) {
+        0 => 0,
+        1 | 2 => fram_len,
+        3..=6 => 256 * seeded.below(fram_len / 256 + 2),
+        _ => seeded.below(fram_len + 256),
+    };
+    edge as i64 + seeded.pick(&[-1, 0, 0, 0, 1])
+}
+
+/// A range by its first offset and its count, which is at least 1.
+fn fram_range(seeded: &mut Seeded, fram_len: usize) -> (i64, i64) {
+    let (a, b) = (fram_edge(seeded, fram_len), fram_edge(seeded, fram_len));
+    match seeded.below(16) {
+        // Most ranges are short and lie inside.
+        0..=5 => {
+            let count = 1 + seeded.below(12);
+            let start = seeded.below(fram_len + 1 - count.min(fram_len));
+            (start as i64, count as i64)
+        }
+        6 => (a, 1 + seeded.below(300) as i64),
+        7 => (a, fram_len as i64 - a),
+        8 => (seeded.number() as u32 as i64 - FIRST, 1 + a.abs()),
+        // At the ends of all addresses, where a sum of 32 bits would wrap.
+        9 => (
+            seeded.pick(&[0, 0x1_0000_0000 - FIRST, 0x1_0000_0000 - 2 * FIRST]) - FIRST + a,
+            b.abs(),
+        ),
+        _ => (a.min(b), (a - b).abs()),
+    }
+}
+
+fn address(offset: i64) -> [u8; 4] {
+    ((FIRST + offset) as u32).to_le_bytes()
+}
+
+fn peek(seeded: &mut Seeded, fram_len: usize) -> Vec<u8> {
+    if seeded.one_in(12) {
+        let start = seeded.below(1 + fram_len.saturating_sub(1_024));
+        let count = 1_023 + seeded.below(3) as u16;
+        return [&address(start as i64)[..], &count.to_le_bytes()].concat();
+    }
+    let (start, count) = fram_range(seeded, fram_len);
+    let mut data = address(start).to_vec();
+    if seeded.one_in(3) {
+        data.push(count.min(256) as u8);
+    } else {
+        let count = match seeded.below(8) {
+            0 => seeded.pick(&[0, 1, 255, 256, 1_023, 1_024, 1_025, 1_280, 65_535]),
+            _ => count.clamp(0, 1_026),
+        };
+        data.extend((count as u16).to_le_bytes());
+    }
+    data
+}
+
+fn poke(seeded: &mut Seeded, fram_len: usize) -> Vec<u8> {
+    let (start, count) = fram_range(seeded, fram_len);
+    let count = match seeded.below(16) {
+        0 => seeded.pick(&[0, 1, 256, 1_023, 1_024]),
+        _ => count.clamp(1, 1_024),
+    };
+    let stored = bytes(seeded, count as usize);
+    [&address(start)[..], &stored].concat()
+}
+
+fn crc(seeded: &mut Seeded, fram_len: usize) -> Vec<u8> {
+    let (first, count) = fram_range(seeded, fram_len);
+    let (start, end) = match seeded.below(12) {
+        0 => (address(first + count), address(first)),
+        1 => (address(first), address(first)),
+        2 => (address(first), address(first - 1)),
+        _ => (address(first), address(first + count.max(1) - 1)),
+    };
+    [start, end].concat()
+}
+
+fn diagnostic(seeded: &mut Seeded) -> Vec<u8> {
+    let length = match seeded.below(6) {
+        0 => 204 + seeded.below(3),
+        _ => length(seeded, 205),
+    };
+    let mut channels: Vec<u8> = (0..length).map(|_| seeded.below(31) as u8).collect();
+    if seeded.one_in(8) && length > 0 {
+        channels[seeded.below(length)] = seeded.pick(&[0x1F, 0x20, 0x80, 0xFF]);
+    }
+    if seeded.one_in(4) && length <= 201 {
+        channels.extend([0x07, 0x08, 0x09, 0x0A]);
+    }
+    channels
+}
+
+/// A file address: any, few so that a list names one twice, and file 0 often.
+fn file(seeded: &mut Seeded) -> u8 {
+    match seeded.below(6) {
+        0 => 0,
+        1 => seeded.pick(&[1, 0xFF, 0xFE, 0x28]),
+        2 | 3 => 1 + seeded.below(4) as u8,
+        _ => seeded.number() as u8,
+    }
+}
+
+/// Files whose structures fill a data field to its edge: six bytes for each file 0, five for each other.
+fn filling(seeded: &mut Seeded) -> Vec<u8> {
+    let size = MOST + seeded.below(9) - 5;
+    let zeros = match seeded.below(3) {
+        0 => size / 6,
+        1 => 0,
+        _ => seeded.below(size / 6),
+    };
+    let mut files = vec![0; zeros];
+    files.extend((0..(size - 6 * zeros) / 5).map(|_| 1 + seeded.below(255) as u8));
+    let first = seeded.below(files.len());
+    files.rotate_left(first);
+    files
+}
+
+fn read_file(seeded: &mut Seeded) -> Vec<u8> {
+    if seeded.one_in(4) {
+        return filling(seeded);
+    }
+    let length = match seeded.below(12) {
+        0 => 0,
+        _ => length(seeded, 206),
+    };
+    (0..length).map(|_| file(seeded)).collect()
+}
+
+fn write_file(seeded: &mut Seeded) -> Vec<u8> {
+    let files = match seeded.below(10) {
+        0 => filling(seeded),
+        _ => {
+            let length = seeded.below(9);
+            (0..length).map(|_| file(seeded)).collect()
+        }
+    };
+    let mut data = Vec::new();
+    for file in files {
+        data.push(file);
+        data.extend(seeded.bytes(if file == 0 { 5 } else { 4 }));
+    }
+    if seeded.one_in(6) {
+        data.truncate(data.len() - seeded.below(7).min(data.len()));
+    }
+    data
+}
+
+/// An EDAC range: anywhere, about the end, about the mode's byte, or as 01's table of edges has it.
+fn edac_range(seeded: &mut Seeded) -> (u16, usize) {
+    if seeded.one_in(5) {
+        return seeded.pick(&[
+            (510, 1_026),
+            (511, 1_026),
+            (0, 1_026),
+            (0, 1_027),
+            (512, 1_024),
+            (513, 1_024),
+            (0, 1_025),
+            (1_535, 1),
+            (1_535, 2),
+            (1_536, 1),
+        ]);
+    }
+    let start = match seeded.below(10) {
+        0 => 0,
+        1 => 509 + seeded.below(4),
+        2 => 0x5C3 - seeded.below(4),
+        3 => 1_533 + seeded.below(5),
+        4 => seeded.pick(&[1_023, 1_024, 2_048, 32_768, 65_535]),
+        _ => seeded.below(1_524),
+    };
+    let count = match seeded.below(12) {
+        0 => seeded.pick(&[0, 255, 256, 257, 1_022, 1_023, 1_024]),
+        1 => 1_024 + seeded.below(5),
+        2 | 3 => (1_535 + seeded.below(3)).saturating_sub(start),
+        _ => 1 + seeded.below(12),
+    };
+    (start as u16, count)
+}
+
+fn read_edac(seeded: &mut Seeded) -> Vec<u8> {
+    let (start, count) = edac_range(seeded);
+    let mut data = start.to_le_bytes().to_vec();
+    if seeded.one_in(3) {
+        data.push(count.min(256) as u8);
+    } else {
+        data.extend((count as u16).to_le_bytes());
+    }
+    data
+}
+
+fn write_edac(seeded: &mut Seeded) -> Vec<u8> {
+    let (start, count) = edac_range(seeded);
+    let stored = bytes(seeded, count.min(1_026));
+    [&start.to_le_bytes()[..], &stored].concat()
+}
+
+/// Ranges of which the last may be chosen so that the reply just fits, or just does not.
+fn gather(seeded: &mut Seeded) -> Vec<u8> {
+    let (mut data, mut left) = (Vec::new(), MOST);
+    for _ in 0..seeded.pick(&[0, 1, 1, 2, 3]) {
+        let (start, count) = edac_range(seeded);
+        data.extend(start.to_le_bytes());
+        data.extend((count as u16).to_le_bytes());
+        left = left.saturating_sub(4 + count);
+    }
+    if seeded.one_in(2) && left > 5 {
+        let count = left - 5 + seeded.below(3);
+        data.extend((seeded.below(1_538).saturating_sub(count) as u16).to_le_bytes());
+        data.extend((count as u16).to_le_bytes());
+    }
+    data
+}

@@ -1,0 +1,54 @@
+//! Two wheels side by side over seeded streams of line bytes: after every byte the answer, the record and the length sent
+//! agree, and after every FEND and every refusal every lent buffer whole, with the cells beyond what was lent.
+//!
+//! A session is a unit's life from its seed alone: `play` chooses what happens, `commands` and `lines` make the bytes,
+//! `pair` feeds both wheels and holds them against each other.
+
+mod commands;
+mod lines;
+mod pair;
+mod play;
+mod tally;
+
+use crate::wheel::Wheel;
+use crate::Seeded;
+use pair::Pair;
+pub use tally::Tally;
+
+/// Where two wheels part, so that it can be had again: the session's seed and the line bytes fed before the call.
+#[derive(Debug)]
+pub struct Difference {
+    pub seed: u64,
+    pub offset: u64,
+    pub what: String,
+}
+
+/// One session.
+pub fn session(
+    first: &dyn Wheel,
+    second: &dyn Wheel,
+    seed: u64,
+    tally: &mut Tally,
+) -> Result<(), Difference> {
+    let mut seeded = Seeded(seed.wrapping_mul(0x2545_F491_4F6C_DD1D));
+    let mut pair = Pair::new(first, second, seed, &mut seeded, tally);
+    let played = play::play(&mut pair, &mut seeded);
+    let offset = pair.offset;
+    played.map_err(|what| Difference { seed, offset, what })
+}
+
+/// Sessions from a seed on until so many line bytes are fed.
+pub fn sessions(
+    first: &dyn Wheel,
+    second: &dyn Wheel,
+    seed: u64,
+    bytes: u64,
+    tally: &mut Tally,
+) -> Result<(), Difference> {
+    let mut next = seed;
+    while tally.bytes < bytes {
+        session(first, second, next, tally)?;
+        next = next.wrapping_add(1);
+    }
+    Ok(())
+}

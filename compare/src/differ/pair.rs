@@ -1,0 +1,226 @@
+//! Two wheels over equal buffers: each call is made on both, and what they hand back and what they left must agree.
+
+use super::tally::Tally;
+use crate::record::{Record, REFUSED};
+use crate::wheel::{Lent, Wheel};
+use crate::{Part, Seeded};
+use std::panic::{catch_unwind, AssertUnwindSafe};
+
+const FEND: u8 = 0xC0;
+
+/// Cells beyond the right length of each buffer, so that a longer one can be lent and a write past the end shows.
+const SLACK: usize = 512;
+
+/// Everything that can be lent, one side's copy.
+#[derive(Clone, PartialEq)]
+pub struct Buffers {
+    pub edac: Vec<u8>,
+    pub fram: Vec<u8>,
+    pub sums: Vec<u16>,
+    pub diagnostics: Vec<u32>,
+    pub message: Vec<u8>,
+    pub reply: Vec<u8>,
+}
+
+/// How many cells of each buffer the next call is lent.
+#[derive(Clone, Copy, Debug, PartialEq)]
+pub struct Lengths {
+    pub edac: usize,
+    pub fram: usize,
+    pub sums: usize,
+    pub diagnostics: usize,
+    pub message: usize,
+    pub reply: usize,
+}
+
+pub struct Pair<'a> {
+    first: &'a dyn Wheel,
+    second: &'a dyn Wheel,
+    sides: [Buffers; 2],
+    tally: &'a mut Tally,
+    pub lengths: Lengths,
+    pub record: Record,
+    pub offset: u64,
+}
+
+/// The largest FRAM that may be fitted.
+pub const LARGEST: usize = 262_144;
+
+/// FRAM sizes: mostly small, so that whole buffers are quickly compared, and the largest in every 32nd session.
+fn fram_len(seed: u64, seeded: &mut Seeded) -> usize {
+    match seed % 32 {
+        31 => LARGEST,
+        30 => 256 * (1 + seeded.below(1_024)),
+        27..=29 => 256 * (1 + seeded.below(64)),
+        _ => 256 * (1 + seeded.below(6)),
+    }
+}
+
+impl<'a> Pair<'a> {
+    pub fn new(
+        first: &'a dyn Wheel,
+        second: &'a dyn Wheel,
+        seed: u64,
+        seeded: &mut Seeded,
+        tally: &'a mut Tally,
+    ) -> Pair<'a> {
+        let fram = fram_len(seed, seeded);
+        let lengths = Lengths {
+            edac: 1_536,
+            fram,
+            sums: fram / 256,
+            diagnostics: 31,
+            message: 1_033 + seeded.pick(&[0, 0, 0, 1, 200]),
+            reply: 2_068 + seeded.pick(&[0, 0, 0, 1, 200]),
+        };
+        let cells = Buffers {
+            edac: seeded.bytes(lengths.edac + SLACK),
+            fram: seeded.bytes(lengths.fram + SLACK),
+            sums: (0..lengths.sums + SLACK)
+                .map(|_| seeded.number() as u16)
+                .collect(),
+            diagnostics: (0..lengths.diagnostics + SLACK)
+                .map(|_| seeded.number() as u32)
+                .collect(),
+            message: seeded.bytes(lengths.message + SLACK),
+            reply: seeded.bytes(lengths.reply + SLACK),
+        };
+        Pair {
+            first,
+            second,
+            sides: [cells.clone(), cells],
+            tally,
+            lengths,
+            record: REFUSED,
+            offset: 0,
+        }
+    }
+
+    /// One byte to both wheels. Their record is kept for the next call.
+    pub fn byte(&mut self, byte: u8) -> Result<u8, String> {
+        let code = self.sides[0].message[2] & 0x1F;
+        let (record, lengths) = (self.record, self.lengths);
+        let [left, right] = &mut self.sides;
+        let call = || format!("byte {byte:#04x}, {record:?}, {lengths:?}");
+        let one = returned(|| self.first.step(record, byte, lent(left, &lengths)), call)?;
+        let two = returned(
+            || self.second.step(record, byte, lent(right, &lengths)),
+            call,
+        )?;
+        agree(one, two, call)?;
+        if byte == FEND || one.answer != 0 {
+            same_buffers(left, right, call)?;
+        }
+        self.tally.byte(one.answer, code);
+        self.offset += 1;
+        self.record = one.record;
+        Ok(one.answer)
+    }
+
+    pub fn bytes(&mut self, bytes: &[u8]) -> Result<(), String> {
+        for &byte in bytes {
+            self.byte(byte)?;
+        }
+        Ok(())
+    }
+
+    pub fn set_up(&mut self, address: u8) -> Result<u8, String> {
+        let lengths = self.lengths;
+        let [left, right] = &mut self.sides;
+        let call = || format!("set-up of {address:#04x}, {lengths:?}");
+        let one = returned(|| self.first.set_up(address, lent(left, &lengths)), call)?;
+        let two = returned(|| self.second.set_up(address, lent(right, &lengths)), call)?;
+        agree(one, two, call)?;
+        same_buffers(left, right, call)?;
+        self.tally.set_ups.add(one.answer);
+        self.record = one.record;
+        Ok(one.answer)
+    }
+
+    pub fn pack(&mut self, message: &[u8], reply: usize) -> Result<(), String> {
+        let [left, right] = &mut self.sides;
+        let call = || format!("packing {message:x?} into {reply}");
+        let one = returned(|| self.first.pack(message, &mut left.reply[..reply]), call)?;
+        let two = returned(
+            || self.second.pack(message, &mut right.reply[..reply]),
+            call,
+        )?;
+        agree(one, two, call)?;
+        same_buffers(left, right, call)?;
+        self.tally.packed.add(one.0);
+        Ok(())
+    }
+
+    pub fn join(&mut self, a: Part, b: Part) -> Result<(), String> {
+        let call = || format!("joining {a:?} and {b:?}");
+        let one = returned(|| self.first.join(a, b), call)?;
+        let two = returned(|| self.second.join(a, b), call)?;
+        agree(one, two, call)?;
+        self.tally.joined.add(one.err().unwrap_or(0));
+        Ok(())
+    }
+
+    /// The most FRAM blocks that can be lent, so that there is still slack.
+    pub fn blocks(&self) -> usize {
+        (self.sides[0].fram.len() - SLACK) / 256
+    }
+
+    /// Changes both sides' buffers alike, as a caller may between two calls.
+    pub fn alter(&mut self, change: impl Fn(&mut Buffers)) {
+        for side in &mut self.sides {
+            change(side);
+        }
+    }
+}
+
+fn lent<'a>(cells: &'a mut Buffers, lengths: &Lengths) -> Lent<'a> {
+    Lent {
+        edac: &mut cells.edac[..lengths.edac],
+        fram: &mut cells.fram[..lengths.fram],
+        sums: &mut cells.sums[..lengths.sums],
+        diagnostics: &mut cells.diagnostics[..lengths.diagnostics],
+        message: &mut cells.message[..lengths.message],
+        reply: &mut cells.reply[..lengths.reply],
+    }
+}
+
+/// What a call hands back. A wheel that panics differs from any other, since no call may halt.
+fn returned<T>(wheel: impl FnOnce() -> T, call: impl Fn() -> String) -> Result<T, String> {
+    catch_unwind(AssertUnwindSafe(wheel)).map_err(|_| format!("{}\n  a wheel panicked", call()))
+}
+
+fn agree<T: PartialEq + std::fmt::Debug>(
+    one: T,
+    two: T,
+    call: impl Fn() -> String,
+) -> Result<(), String> {
+    if one == two {
+        return Ok(());
+    }
+    Err(format!(
+        "{}\n  first:  {one:x?}\n  second: {two:x?}",
+        call()
+    ))
+}
+
+fn same_buffers(one: &Buffers, two: &Buffers, call: impl Fn() -> String) -> Result<(), String> {
+    if one == two {
+        return Ok(());
+    }
+    let mut what = call();
+    what += &parted("EDAC", &one.edac, &two.edac);
+    what += &parted("FRAM", &one.fram, &two.fram);
+    what += &parted("sums", &one.sums, &two.sums);
+    what += &parted("diagnostics", &one.diagnostics, &two.diagnostics);
+    what += &parted("message", &one.message, &two.message);
+    what += &parted("reply", &one.reply, &two.reply);
+    Err(what)
+}
+
+/// The first place at which two copies of a buffer differ.
+fn parted<T: PartialEq + std::fmt::LowerHex>(name: &str, one: &[T], two: &[T]) -> String {
+    match one.iter().zip(two).position(|(a, b)| a != b) {
+        None => String::new(),
+        Some(at) => format!("\n  {name} at {at}: {:x} and {:x}", one[at], two[at]),
+    }
+}

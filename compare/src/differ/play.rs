@@ -1,0 +1,358 @@
+//! A session: a unit is set up, and then messages, noise, and callers who alter what they lend or lend it wrongly.
+
+use super::pair::{Lengths, Pair, LARGEST};
+use super::{commands, lines};
+use crate::record::{Mode, Place, Record};
+use crate::{Part, Seeded};
+
+const FEND: u8 = 0xC0;
+const FESC: u8 = 0xDB;
+
+type Played = Result<(), String>;
+
+/// Line bytes of a session. A large FRAM takes long to compare, so its sessions are short.
+fn bytes_with(fram_len: usize) -> u64 {
+    if fram_len > LARGE {
+        8_192
+    } else {
+        32_768
+    }
+}
+
+/// Above this an FRAM is set up and compared seldom.
+const LARGE: usize = 16_384;
+
+pub fn play(pair: &mut Pair, seeded: &mut Seeded) -> Played {
+    if seeded.one_in(4) {
+        refused_set_up(pair, seeded)?;
+    }
+    set_up(pair, seeded)?;
+    if pair.lengths.fram == LARGEST {
+        one_block_too_many(pair)?;
+    }
+    let bytes = bytes_with(pair.lengths.fram);
+    while pair.offset < bytes {
+        match seeded.below(64) {
+            0..=31 => sound_run(pair, seeded)?,
+            32..=35 => repeated(pair, seeded)?,
+            36..=43 => spoiled_run(pair, seeded)?,
+            44..=46 => pair.bytes(&lines::noise(seeded))?,
+            47..=50 => planted(pair, seeded)?,
+            51..=55 => altered_memory(pair, seeded),
+            56..=57 => altered_record(pair, seeded)?,
+            58..=60 => wrongly_lent(pair, seeded)?,
+            61 => another_set_up(pair, seeded)?,
+            62 => packing(pair, seeded)?,
+            _ => joining(pair, seeded)?,
+        }
+    }
+    Ok(())
+}
+
+/// Any address that a unit may have.
+fn set_up(pair: &mut Pair, seeded: &mut Seeded) -> Played {
+    let address = match seeded.below(3) {
+        0 => seeded.pick(&[0x01, 0xC1, 0xBF, 0xDA, 0xDC, 0xDD, 0xFF]),
+        1 => seeded.number() as u8,
+        _ => 0x41,
+    };
+    pair.set_up(if matches!(address, 0x00 | FEND | FESC) {
+        0x41
+    } else {
+        address
+    })?;
+    Ok(())
+}
+
+/// More FRAM than may be fitted, on which record, slice and sums agree.
+fn one_block_too_many(pair: &mut Pair) -> Played {
+    let (lengths, record) = (pair.lengths, pair.record);
+    pair.lengths.fram += 256;
+    pair.lengths.sums += 1;
+    pair.record.fram_len += 256;
+    pair.byte(FEND)?;
+    pair.set_up(record.address)?;
+    (pair.lengths, pair.record) = (lengths, record);
+    Ok(())
+}
+
+/// A set-up in the midst of it all. A large FRAM's sums take long, so there it comes seldom.
+fn another_set_up(pair: &mut Pair, seeded: &mut Seeded) -> Played {
+    if pair.lengths.fram > LARGE && !seeded.one_in(16) {
+        return Ok(());
+    }
+    if seeded.one_in(2) {
+        refused_set_up(pair, seeded)?;
+    }
+    set_up(pair, seeded)
+}
+
+/// Feeds a run and its FEND, with a first FEND where the receiver needs one.
+fn run(pair: &mut Pair, seeded: &mut Seeded, line: &[u8]) -> Played {
+    if pair.record.place == Place::Fresh && !seeded.one_in(8) {
+        if seeded.one_in(2) {
+            pair.bytes(&lines::noise(seeded))?;
+        }
+        pair.byte(FEND)?;
+    }
+    if seeded.one_in(16) {
+        let at = seeded.below(line.len() + 1);
+        pair.bytes(&line[..at])?;
+        disturbed(pair, seeded)?;
+        pair.bytes(&line[at..])?;
+    } else {
+        pair.bytes(line)?;
+    }
+    pair.byte(FEND)?;
+    if seeded.one_in(4) {
+        pair.byte(FEND)?;
+    }
+    Ok(())
+}
+
+fn sound_run(pair: &mut Pair, seeded: &mut Seeded) -> Played {
+    let message = lines::message(seeded, &pair.record);
+    run(pair, seeded, &lines::escaped(&message))
+}
+
+/// The same command twice: where it stores, the second time it stores what is there. Its sums may have been altered.
+fn repeated(pair: &mut Pair, seeded: &mut Seeded) -> Played {
+    let message = lines::message(seeded, &pair.record);
+    run(pair, seeded, &lines::escaped(&message))?;
+    if seeded.one_in(2) {
+        pair.alter(|lent| lent.sums.iter_mut().for_each(|sum| *sum ^= 0x0101));
+    }
+    run(pair, seeded, &lines::escaped(&message))
+}
+
+fn spoiled_run(pair: &mut Pair, seeded: &mut Seeded) -> Played {
+    let line = lines::spoiled(seeded, &pair.record);
+    run(pair, seeded, &line)
+}
+
+/// Something that happens in the middle of a run.
+fn disturbed(pair: &mut Pair, seeded: &mut Seeded) -> Played {
+    match seeded.below(4) {
+        0 => wrongly_lent(pair, seeded),
+        1 => altered_record(pair, seeded),
+        2 => {
+            let (at, byte) = (seeded.below(12), seeded.number() as u8);
+            pair.alter(|lent| lent.message[at] = byte);
+            Ok(())
+        }
+        _ => {
+            altered_memory(pair, seeded);
+            Ok(())
+        }
+    }
+}
+
+/// A message that stands in the lent buffer without having been received, and a record that says it was.
+fn planted(pair: &mut Pair, seeded: &mut Seeded) -> Played {
+    let message = lines::message(seeded, &pair.record);
+    pair.alter(|lent| lent.message[..message.len()].copy_from_slice(&message));
+    pair.record.place = match seeded.below(16) {
+        0 => Place::Fresh,
+        1 => Place::Escape,
+        2 => Place::Fault,
+        _ => Place::Run,
+    };
+    pair.record.count = match seeded.below(16) {
+        0 => message.len() - 1,
+        1 => message.len() + 1,
+        _ => message.len(),
+    };
+    pair.byte(FEND)?;
+    Ok(())
+}
+
+/// The caller writes into what it lends.
+fn altered_memory(pair: &mut Pair, seeded: &mut Seeded) {
+    let byte = seeded.number() as u8;
+    match seeded.below(8) {
+        0 => altered_counts(pair, seeded),
+        1 => {
+            let at = seeded.below(pair.lengths.sums);
+            let sum = seeded.number() as u16;
+            pair.alter(|lent| lent.sums[at] = sum);
+        }
+        2 => pair.alter(|lent| lent.sums.fill(u16::from(byte) * 0x0101)),
+        3 => {
+            let at = seeded.below(pair.lengths.fram);
+            pair.alter(|lent| lent.fram[at] = byte);
+        }
+        4 => {
+            let at = seeded.pick(&[0, 1, 3, 4, 0x5C2, 0x5C3, 0x5C4, 1_020, 1_535]);
+            pair.alter(|lent| lent.edac[at] = byte);
+        }
+        5 => pair.alter(|lent| lent.message.fill(byte)),
+        6 => pair.alter(|lent| lent.reply.fill(byte)),
+        _ => {
+            let at = seeded.below(31);
+            pair.alter(|lent| lent.diagnostics[at] = u32::from(byte) << 20 | 0xC0DB);
+        }
+    }
+}
+
+/// The error counts near their highest value, where they stay.
+fn altered_counts(pair: &mut Pair, seeded: &mut Seeded) {
+    for channel in 7..=10 {
+        let count = seeded.pick(&[0, 0xFFFF, 0x7FFF_FFFF, u32::MAX - 1, u32::MAX, u32::MAX]);
+        pair.alter(|lent| lent.diagnostics[channel] = count);
+    }
+}
+
+/// The caller hands in another record: any mode, place and count. A count that is refused is set right afterwards, since
+/// nothing else would come of it.
+fn altered_record(pair: &mut Pair, seeded: &mut Seeded) -> Played {
+    let count = match seeded.below(6) {
+        0 => seeded.below(8),
+        1 => 1_030 + seeded.below(5),
+        2 => 1_035 + seeded.below(3),
+        3 => seeded.pick(&[1 << 16, (1 << 32) + 4, 1 << 63, usize::MAX]),
+        4 => pair.record.count,
+        _ => seeded.below(1_035),
+    };
+    pair.record = Record {
+        mode: seeded.pick(&[Mode::Bootloader, Mode::Application, Mode::Application]),
+        place: seeded.pick(&[Place::Fresh, Place::Run, Place::Escape, Place::Fault]),
+        count,
+        ..pair.record
+    };
+    for _ in 0..1 + seeded.below(3) {
+        pair.byte(any_byte(seeded))?;
+    }
+    if pair.record.count > 1_034 {
+        pair.record.count = seeded.below(1_035);
+    }
+    if seeded.one_in(4) {
+        another_fram(pair, seeded);
+    }
+    Ok(())
+}
+
+/// From now on the caller lends an FRAM of another length, and its record says so.
+fn another_fram(pair: &mut Pair, seeded: &mut Seeded) {
+    if pair.lengths.fram > LARGE {
+        return;
+    }
+    let blocks = 1 + seeded.below(pair.blocks());
+    pair.lengths.fram = 256 * blocks;
+    pair.lengths.sums = blocks;
+    pair.record.fram_len = 256 * blocks;
+}
+
+/// A byte that means something to the receiver, mostly.
+fn any_byte(seeded: &mut Seeded) -> u8 {
+    match seeded.below(3) {
+        0 => FEND,
+        1 => seeded.pick(&[FESC, 0xDC, 0xDD, 0x41]),
+        _ => seeded.number() as u8,
+    }
+}
+
+/// Some calls that are wrong in one way or in several, after which everything is lent rightly again.
+fn wrongly_lent(pair: &mut Pair, seeded: &mut Seeded) -> Played {
+    let (lengths, record) = (pair.lengths, pair.record);
+    for _ in 0..seeded.pick(&[1, 1, 2, 3]) {
+        match seeded.below(3) {
+            0 => spoil_record(pair, seeded, &lengths),
+            _ => spoil_length(pair, seeded, &lengths),
+        }
+    }
+    for _ in 0..1 + seeded.below(3) {
+        pair.byte(any_byte(seeded))?;
+    }
+    pair.lengths = lengths;
+    pair.record.address = record.address;
+    pair.record.fram_len = record.fram_len;
+    if pair.record.count > 1_034 {
+        pair.record.count = record.count;
+    }
+    Ok(())
+}
+
+/// Makes the record wrong, given the right lengths.
+fn spoil_record(pair: &mut Pair, seeded: &mut Seeded, right: &Lengths) {
+    let fram = right.fram;
+    match seeded.below(4) {
+        0 => pair.record.address = seeded.pick(&[0x00, FEND, FESC]),
+        1 => {
+            pair.record.fram_len =
+                seeded.pick(&[0, fram - 256, fram + 256, fram + (1 << 32), usize::MAX]);
+        }
+        // Record and slice agree, on a length that is wrong or for which there are not as many sums.
+        2 => {
+            let length = seeded.pick(&[0, 1, fram - 1, fram + 1, fram + 128, fram + 256]);
+            (pair.lengths.fram, pair.record.fram_len) = (length, length);
+            if seeded.one_in(2) {
+                pair.lengths.sums = length / 256;
+            }
+        }
+        _ => pair.record.count = seeded.pick(&[1_035, 1_036, 1 << 32, usize::MAX]),
+    }
+}
+
+/// Makes a length wrong, given the right ones.
+fn spoil_length(pair: &mut Pair, seeded: &mut Seeded, right: &Lengths) {
+    let (lengths, fram, sums) = (&mut pair.lengths, right.fram, right.sums);
+    match seeded.below(7) {
+        0 => lengths.edac = seeded.pick(&[0, 1, 384, 1_535, 1_537, 2_048]),
+        1 => lengths.fram = seeded.pick(&[0, fram - 256, fram - 1, fram + 1, fram + 256]),
+        2 => lengths.sums = seeded.pick(&[0, sums - 1, sums + 1, sums + sums.min(256)]),
+        3 => lengths.diagnostics = seeded.pick(&[0, 30, 32, 124]),
+        4 => lengths.message = seeded.pick(&[0, 4, 1_032]),
+        // FRAM and sums agree on a block more or less.
+        5 => {
+            lengths.fram = seeded.pick(&[fram - 256, fram + 256]);
+            lengths.sums = lengths.fram / 256;
+        }
+        _ => lengths.reply = seeded.pick(&[0, 1_033, 2_067]),
+    }
+}
+
+/// A set-up that is mostly refused, and bytes with the record that it handed back.
+fn refused_set_up(pair: &mut Pair, seeded: &mut Seeded) -> Played {
+    let lengths = pair.lengths;
+    let address = match seeded.below(4) {
+        0 => seeded.pick(&[0x00, FEND, FESC]),
+        _ => 0x41,
+    };
+    for _ in 0..seeded.below(4) {
+        spoil_length(pair, seeded, &lengths);
+    }
+    pair.set_up(address)?;
+    if seeded.one_in(2) {
+        pair.lengths = lengths;
+    }
+    for _ in 0..seeded.below(3) {
+        pair.byte(any_byte(seeded))?;
+    }
+    pair.lengths = lengths;
+    Ok(())
+}
+
+fn packing(pair: &mut Pair, seeded: &mut Seeded) -> Played {
+    let length = match seeded.below(4) {
+        0 => seeded.pick(&[0, 3, 4, 5, 6]),
+        1 => 1_032 + seeded.below(4),
+        _ => seeded.below(1_100),
+    };
+    let message = commands::bytes(seeded, length);
+    let reply = seeded.pick(&[0, 2_067, 2_068, 2_068, 2_069, 2_100]);
+    pair.pack(&message, reply)
+}
+
+/// Lengths of all sizes, long ones often, so that many are refused, and pairs about the longest total.
+fn joining(pair: &mut Pair, seeded: &mut Seeded) -> Played {
+    let sizes = seeded.pick(&[2, 32]);
+    let mut part = || Part {
+        sum: seeded.number() as u16,
+        len: seeded.number() as u32 >> seeded.below(sizes),
+    };
+    let (first, mut second) = (part(), part());
+    if seeded.one_in(3) {
+        second.len = (u32::MAX - first.len).saturating_add(seeded.below(2) as u32);
+    }
+    pair.join(first, second)
+}

@@ -1,0 +1,39 @@
+//! What a unit is between two bytes: the record that each call takes and hands back (01, The unit and its neighbours).
+//! The caller keeps it and may hand in any, so every field is open.
+
+#[derive(Clone, Copy, Debug, PartialEq, Eq)]
+pub enum Mode {
+    Bootloader,
+    Application,
+}
+
+/// Where the receiver stands in the line's bytes.
+#[derive(Clone, Copy, Debug, PartialEq, Eq)]
+pub enum Place {
+    /// No FEND has come yet.
+    Fresh,
+    /// In a run, or at its start.
+    Run,
+    /// In a run, right after a FESC.
+    Escape,
+    /// In a run that has a framing fault.
+    Fault,
+}
+
+#[derive(Clone, Copy, Debug, PartialEq, Eq)]
+pub struct Record {
+    pub address: u8,
+    pub mode: Mode,
+    pub fram_len: usize,
+    pub place: Place,
+    pub count: usize,
+}
+
+/// What a refused set-up hands back: every later call with it is refused by its address.
+pub const REFUSED: Record = Record {
+    address: 0,
+    mode: Mode::Bootloader,
+    fram_len: 0,
+    place: Place::Fresh,
+    count: 0,
+};

@@ -1,0 +1,74 @@
+//! 01, The line (ICD 9.1): the receiver and packing.
+
+use crate::record::Place;
+
+pub const FEND: u8 = 0xC0;
+pub const FESC: u8 = 0xDB;
+const TFEND: u8 = 0xDC;
+const TFESC: u8 = 0xDD;
+
+/// The most bytes of a message, destination to CRC (ICD 10.2).
+pub const LONGEST: usize = 1_033;
+
+/// A run that a FEND has closed.
+pub enum Run {
+    /// It has a framing fault.
+    Faulty,
+    /// So many bytes were unpacked from it, or 1,034 where there were more.
+    Whole(usize),
+}
+
+/// One byte: the receiver's new place and count, and the run that it closed.
+pub fn take(
+    place: Place,
+    count: usize,
+    byte: u8,
+    message: &mut [u8],
+) -> (Place, usize, Option<Run>) {
+    if byte == FEND {
+        // Each FEND opens a run, and what follows is read without regard to the run before it.
+        return (Place::Run, 0, closed(place, count));
+    }
+    match (place, byte) {
+        // Before the first FEND, and after a fault until the next, no byte means anything.
+        (Place::Fresh | Place::Fault, _) => (place, count, None),
+        (Place::Run, FESC) => (Place::Escape, count, None),
+        (Place::Run, _) => (Place::Run, store(byte, count, message), None),
+        (Place::Escape, TFEND) => (Place::Run, store(FEND, count, message), None),
+        (Place::Escape, TFESC) => (Place::Run, store(FESC, count, message), None),
+        // FESC and anything else is a framing fault, which the closing FEND will answer.
+        (Place::Escape, _) => (Place::Fault, count, None),
+    }
+}
+
+/// What a FEND closes. The first one closes nothing; one after FESC is a fault and still closes the run.
+fn closed(place: Place, count: usize) -> Option<Run> {
+    match place {
+        Place::Fresh => None,
+        Place::Run => Some(Run::Whole(count)),
+        Place::Escape | Place::Fault => Some(Run::Faulty),
+    }
+}
+
+/// Only the first 1,033 unpacked bytes are stored, however long the buffer is, and the count stops at 1,034.
+fn store(byte: u8, count: usize, message: &mut [u8]) -> usize {
+    if count < LONGEST {
+        message[count] = byte;
+    }
+    (count + 1).min(LONGEST + 1)
+}
+
+/// A message with FEND at both ends, at the start of the reply buffer. Hands back its length.
+pub fn pack(message: &[u8], reply: &mut [u8]) -> usize {
+    let mut packed = vec![FEND];
+    for &byte in message {
+        match byte {
+            FEND => packed.extend([FESC, TFEND]),
+            FESC => packed.extend([FESC, TFESC]),
+            _ => packed.push(byte),
+        }
+    }
+    packed.push(FEND);
+    reply[..packed.len()].copy_from_slice(&packed);
+    packed.len()
+}

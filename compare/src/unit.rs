@@ -1,0 +1,225 @@
+//! The proved unit of `include/wheel.h`, declared once and wrapped. Its functions ask nothing of their caller but slices
+//! that are as long as they say and do not overlap, which Rust's own slices are, so each wrapper is safe as it stands.
+
+use crate::proved;
+use crate::record::{Mode, Place, Record};
+use crate::wheel::{Lent, Stepped, Wheel};
+use crate::Part;
+
+#[repr(C)]
+struct WheelUnit {
+    fram_len: u64,
+    count: u64,
+    address: u8,
+    mode: u8,
+    place: u8,
+}
+
+#[repr(C)]
+struct WheelStepped {
+    unit: WheelUnit,
+    sent: u64,
+    answer: u8,
+}
+
+#[repr(C)]
+struct WheelPacked {
+    sent: u64,
+    answer: u8,
+}
+
+extern "C" {
+    fn wheel_set_up(
+        address: u8,
+        edac: *const u8,
+        edac_len: usize,
+        fram: *const u8,
+        fram_len: usize,
+        sums: *mut u16,
+        sums_len: usize,
+        diagnostics: *const u32,
+        diagnostics_len: usize,
+        message: *const u8,
+        message_len: usize,
+        reply: *const u8,
+        reply_len: usize,
+    ) -> WheelStepped;
+
+    fn wheel_step(
+        unit: WheelUnit,
+        byte: u8,
+        edac: *mut u8,
+        edac_len: usize,
+        fram: *mut u8,
+        fram_len: usize,
+        sums: *mut u16,
+        sums_len: usize,
+        diagnostics: *mut u32,
+        diagnostics_len: usize,
+        message: *mut u8,
+        message_len: usize,
+        reply: *mut u8,
+        reply_len: usize,
+    ) -> WheelStepped;
+
+    fn wheel_pack(
+        message: *const u8,
+        message_len: usize,
+        reply: *mut u8,
+        reply_len: usize,
+    ) -> WheelPacked;
+}
+
+impl From<Record> for WheelUnit {
+    fn from(record: Record) -> WheelUnit {
+        WheelUnit {
+            fram_len: record.fram_len as u64,
+            count: record.count as u64,
+            address: record.address,
+            mode: match record.mode {
+                Mode::Bootloader => 0,
+                Mode::Application => 1,
+            },
+            place: match record.place {
+                Place::Fresh => 0,
+                Place::Run => 1,
+                Place::Escape => 2,
+                Place::Fault => 3,
+            },
+        }
+    }
+}
+
+/// A number that no mode or place has is a fault of the face.
+impl From<WheelUnit> for Record {
+    fn from(unit: WheelUnit) -> Record {
+        Record {
+            address: unit.address,
+            mode: match unit.mode {
+                0 => Mode::Bootloader,
+                1 => Mode::Application,
+                number => panic!("the face handed back mode {number}"),
+            },
+            fram_len: length(unit.fram_len),
+            place: match unit.place {
+                0 => Place::Fresh,
+                1 => Place::Run,
+                2 => Place::Escape,
+                3 => Place::Fault,
+                number => panic!("the face handed back place {number}"),
+            },
+            count: length(unit.count),
+        }
+    }
+}
+
+fn length(number: u64) -> usize {
+    number
+        .try_into()
+        .expect("a length that this machine can have")
+}
+
+impl From<WheelStepped> for Stepped {
+    fn from(stepped: WheelStepped) -> Stepped {
+        Stepped {
+            record: stepped.unit.into(),
+            answer: stepped.answer,
+            sent: length(stepped.sent),
+        }
+    }
+}
+
+/// Set-up, which changes nothing that is lent but the sums.
+pub fn set_up(
+    address: u8,
+    edac: &[u8],
+    fram: &[u8],
+    sums: &mut [u16],
+    diagnostics: &[u32],
+    message: &[u8],
+    reply: &[u8],
+) -> Stepped {
+    let stepped = unsafe {
+        wheel_set_up(
+            address,
+            edac.as_ptr(),
+            edac.len(),
+            fram.as_ptr(),
+            fram.len(),
+            sums.as_mut_ptr(),
+            sums.len(),
+            diagnostics.as_ptr(),
+            diagnostics.len(),
+            message.as_ptr(),
+            message.len(),
+            reply.as_ptr(),
+            reply.len(),
+        )
+    };
+    stepped.into()
+}
+
+/// One byte. What is sent stands at the start of the reply buffer.
+pub fn step(record: Record, byte: u8, lent: Lent) -> Stepped {
+    let stepped = unsafe {
+        wheel_step(
+            record.into(),
+            byte,
+            lent.edac.as_mut_ptr(),
+            lent.edac.len(),
+            lent.fram.as_mut_ptr(),
+            lent.fram.len(),
+            lent.sums.as_mut_ptr(),
+            lent.sums.len(),
+            lent.diagnostics.as_mut_ptr(),
+            lent.diagnostics.len(),
+            lent.message.as_mut_ptr(),
+            lent.message.len(),
+            lent.reply.as_mut_ptr(),
+            lent.reply.len(),
+        )
+    };
+    stepped.into()
+}
+
+/// Packing alone: the answer and the length of the packed message.
+pub fn pack(message: &[u8], reply: &mut [u8]) -> (u8, usize) {
+    let packed = unsafe {
+        wheel_pack(
+            message.as_ptr(),
+            message.len(),
+            reply.as_mut_ptr(),
+            reply.len(),
+        )
+    };
+    (packed.answer, length(packed.sent))
+}
+
+/// The proved unit as a wheel that can be compared.
+pub struct Proved;
+
+impl Wheel for Proved {
+    fn set_up(&self, address: u8, lent: Lent) -> Stepped {
+        set_up(
+            address,
+            lent.edac,
+            lent.fram,
+            lent.sums,
+            lent.diagnostics,
+            lent.message,
+            lent.reply,
+        )
+    }
+
+    fn step(&self, record: Record, byte: u8, lent: Lent) -> Stepped {
+        step(record, byte, lent)
+    }
+
+    fn pack(&self, message: &[u8], reply: &mut [u8]) -> (u8, usize) {
+        pack(message, reply)
+    }
+
+    fn join(&self, first: Part, second: Part) -> Result<Part, u8> {
+        proved::join(first, second).map_err(|number| number.try_into().unwrap_or(u8::MAX))
+    }
+}

@@ -1,0 +1,83 @@
+//! Any wheel that can be compared: set-up, one byte, packing and joining over what it is lent.
+
+use crate::record::Record;
+use crate::Part;
+
+/// What a call is lent.
+pub struct Lent<'a> {
+    pub edac: &'a mut [u8],
+    pub fram: &'a mut [u8],
+    pub sums: &'a mut [u16],
+    pub diagnostics: &'a mut [u32],
+    pub message: &'a mut [u8],
+    pub reply: &'a mut [u8],
+}
+
+/// What a call hands back: the record, 01's number of the answer, and the length of what is sent.
+#[derive(Clone, Copy, Debug, PartialEq, Eq)]
+pub struct Stepped {
+    pub record: Record,
+    pub answer: u8,
+    pub sent: usize,
+}
+
+pub trait Wheel {
+    fn set_up(&self, address: u8, lent: Lent) -> Stepped;
+    fn step(&self, record: Record, byte: u8, lent: Lent) -> Stepped;
+    /// The answer and the length of the packed message.
+    fn pack(&self, message: &[u8], reply: &mut [u8]) -> (u8, usize);
+    /// The joined part, or the number of the refusal.
+    fn join(&self, first: Part, second: Part) -> Result<Part, u8>;
+}
+
+/// Makes a wheel of a module that has the functions of `second`.
+#[macro_export]
+macro_rules! wheel_of_module {
+    ($name:ident, $($module:ident)::+) => {
+        pub struct $name;
+
+        impl $crate::wheel::Wheel for $name {
+            fn set_up(&self, address: u8, lent: $crate::wheel::Lent) -> $crate::wheel::Stepped {
+                let (record, answer) = $($module)::+::set_up(
+                    address,
+                    lent.edac,
+                    lent.fram,
+                    lent.sums,
+                    lent.diagnostics,
+                    lent.message,
+                    lent.reply,
+                );
+                $crate::wheel::Stepped { record, answer, sent: 0 }
+            }
+
+            fn step(
+                &self,
+                record: $crate::record::Record,
+                byte: u8,
+                lent: $crate::wheel::Lent,
+            ) -> $crate::wheel::Stepped {
+                let (record, answer, sent) = $($module)::+::step(
+                    record,
+                    byte,
+                    lent.edac,
+                    lent.fram,
+                    lent.sums,
+                    lent.diagnostics,
+                    lent.message,
+                    lent.reply,
+                );
+                $crate::wheel::Stepped { record, answer, sent }
+            }
+
+            fn pack(&self, message: &[u8], reply: &mut [u8]) -> (u8, usize) {
+                $($module)::+::pack(message, reply)
+            }
+
+            fn join(&self, first: $crate::Part, second: $crate::Part) -> Result<$crate::Part, u8> {
+                $($module)::+::join(first, second)
+            }
+        }
+    };
+}
+
+wheel_of_module!(Second, crate::second);

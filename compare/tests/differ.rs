@@ -1,0 +1,97 @@
+//! The comparison itself: what its streams reach, that a seed gives one stream, and that it sees a wheel that panics.
+
+use compare::differ::{session, sessions, Tally};
+use compare::record::Record;
+use compare::wheel::{Lent, Second, Stepped, Wheel};
+use compare::Part;
+use std::cell::RefCell;
+
+#[test]
+fn every_answer_and_every_command_comes_often() {
+    let mut tally = Tally::default();
+    sessions(&Second, &Second, 1, 3_000_000, &mut tally).unwrap();
+    for answer in (0..=10).chain(20..=26) {
+        assert!(tally.answers.of(answer) >= 100, "{answer}:\n{tally}");
+    }
+    for (code, times) in tally.commands.iter().enumerate() {
+        let done = matches!(code, 0x00..=0x04 | 0x06..=0x0B);
+        // PING is never refused.
+        let refused = code != 0x00;
+        let outside = matches!(code, 0x02 | 0x03 | 0x06);
+        let due = [
+            (1, done),
+            (2, done),
+            (3, refused),
+            (4, refused),
+            (10, outside),
+        ];
+        for (answer, comes) in due {
+            assert_eq!(times.of(answer) > 0, comes, "{code:#04x}:\n{tally}");
+        }
+    }
+    for answer in [0].into_iter().chain(20..=25) {
+        assert!(tally.set_ups.of(answer) >= 5, "{answer}:\n{tally}");
+    }
+    for answer in [0, 25, 35] {
+        assert!(tally.packed.of(answer) >= 50, "{answer}:\n{tally}");
+    }
+    for answer in [0, 36] {
+        assert!(tally.joined.of(answer) >= 50, "{answer}:\n{tally}");
+    }
+}
+
+/// A wheel that notes each call, and halts at one of them.
+struct Noting {
+    calls: RefCell<Vec<(Record, u8)>>,
+    halt: usize,
+}
+
+impl Wheel for Noting {
+    fn set_up(&self, address: u8, lent: Lent) -> Stepped {
+        Second.set_up(address, lent)
+    }
+
+    fn step(&self, record: Record, byte: u8, lent: Lent) -> Stepped {
+        self.calls.borrow_mut().push((record, byte));
+        assert!(self.calls.borrow().len() <= self.halt, "the wheel halts");
+        Second.step(record, byte, lent)
+    }
+
+    fn pack(&self, message: &[u8], reply: &mut [u8]) -> (u8, usize) {
+        Second.pack(message, reply)
+    }
+
+    fn join(&self, first: Part, second: Part) -> Result<Part, u8> {
+        Second.join(first, second)
+    }
+}
+
+fn noting(halt: usize) -> Noting {
+    Noting {
+        calls: RefCell::new(Vec::new()),
+        halt,
+    }
+}
+
+#[test]
+fn a_seed_gives_one_stream() {
+    let streams: Vec<Vec<(Record, u8)>> = [7, 7, 8]
+        .map(|seed| {
+            let wheel = noting(usize::MAX);
+            session(&wheel, &Second, seed, &mut Tally::default()).unwrap();
+            wheel.calls.into_inner()
+        })
+        .into();
+    assert_eq!(streams[0], streams[1]);
+    assert_ne!(streams[0], streams[2]);
+}
+
+#[test]
+fn a_wheel_that_halts_is_a_difference_at_its_place() {
+    let difference = session(&Second, &noting(1_000), 5, &mut Tally::default()).unwrap_err();
+    assert_eq!((difference.seed, difference.offset), (5, 1_000));
+    assert!(difference.what.ends_with("a wheel panicked"));
+    // The seed has it again.
+    let again = session(&Second, &noting(1_000), 5, &mut Tally::default()).unwrap_err();
+    assert_eq!(again.what, difference.what);
+}

@@ -1,0 +1,50 @@
+//! The comparison tried: each mistake of `mistakes.txt` is caught within a bounded number of line bytes.
+//! `cargo test --test mistakes -- --nocapture` prints how many each one took.
+
+use compare::differ::{sessions, Tally};
+use compare::wheel::Second;
+// What the copies of the second program find under these names in their own crate.
+use compare::{record, Part};
+
+mod mistakes {
+    include!(concat!(env!("OUT_DIR"), "/mistakes.rs"));
+}
+
+/// Line bytes within which each mistake must show.
+const BYTES: u64 = 2_000_000;
+
+/// A wheel that panics says so, which is no news here.
+fn quietly<T>(work: impl FnOnce() -> T) -> T {
+    let hook = std::panic::take_hook();
+    std::panic::set_hook(Box::new(|_| ()));
+    let done = work();
+    std::panic::set_hook(hook);
+    done
+}
+
+#[test]
+fn each_mistake_is_caught() {
+    let (mut caught, mut missed) = (0, Vec::new());
+    for (name, wheel) in &mistakes::all()[1..] {
+        let mut tally = Tally::default();
+        match quietly(|| sessions(&Second, *wheel, 1, BYTES, &mut tally)) {
+            Ok(()) => missed.push(*name),
+            Err(difference) => {
+                caught += 1;
+                let what = difference.what.lines().next().unwrap_or_default();
+                println!("{:>8} bytes  {name}  ({:.60})", tally.bytes, what);
+            }
+        }
+    }
+    println!("{caught} mistakes caught");
+    assert!(missed.is_empty(), "not caught: {missed:#?}");
+    assert!(caught >= 20);
+}
+
+#[test]
+fn a_copy_without_a_mistake_agrees() {
+    let (name, wheel) = mistakes::all()[0];
+    assert_eq!(name, "No mistake");
+    let mut tally = Tally::default();
+    sessions(&Second, wheel, 1, 2_000_000, &mut tally).unwrap();
+}

@@ -1,0 +1,244 @@
+//! A unit on a bench: everything that it is lent, and messages to and from it in the tests' own coding.
+
+use compare::plain;
+use compare::record::{Mode, Place, Record, REFUSED};
+use compare::second;
+
+pub const FEND: u8 = 0xC0;
+pub const ADDRESS: u8 = 0x41;
+pub const FIRST: u32 = 0x2004_0000;
+pub const APPLICATION: [u8; 4] = [0x00, 0x00, 0x05, 0x20];
+
+#[derive(Clone, Debug, PartialEq)]
+pub struct Bench {
+    pub record: Record,
+    pub edac: Vec<u8>,
+    pub fram: Vec<u8>,
+    pub sums: Vec<u16>,
+    pub diagnostics: Vec<u32>,
+    pub message: Vec<u8>,
+    pub reply: Vec<u8>,
+}
+
+/// A reply without its framing and CRC.
+#[derive(Debug, PartialEq)]
+pub struct Reply {
+    pub destination: u8,
+    pub source: u8,
+    pub control: u8,
+    pub data: Vec<u8>,
+}
+
+/// Bytes that differ from their neighbours and from block to block.
+pub fn pattern(length: usize) -> Vec<u8> {
+    (0..length)
+        .map(|i| (i * 7 + i / 256 * 13 + 1) as u8)
+        .collect()
+}
+
+pub fn crc(bytes: &[u8]) -> u16 {
+    plain::bit_by_bit(0xFFFF, bytes)
+}
+
+/// A message with its CRC.
+pub fn message(destination: u8, source: u8, control: u8, data: &[u8]) -> Vec<u8> {
+    let mut message = [&[destination, source, control], data].concat();
+    message.extend(crc(&message).to_le_bytes());
+    message
+}
+
+/// A message as the line carries it, without the FENDs.
+pub fn escaped(message: &[u8]) -> Vec<u8> {
+    let mut line = Vec::new();
+    for &byte in message {
+        match byte {
+            0xC0 => line.extend([0xDB, 0xDC]),
+            0xDB => line.extend([0xDB, 0xDD]),
+            _ => line.push(byte),
+        }
+    }
+    line
+}
+
+/// The message in a sent reply, which has FEND at both ends and none within.
+pub fn unpacked(sent: &[u8]) -> Vec<u8> {
+    let inner = sent.strip_prefix(&[FEND]).expect("a FEND first");
+    let inner = inner.strip_suffix(&[FEND]).expect("a FEND last");
+    let (mut message, mut bytes) = (Vec::new(), inner.iter());
+    while let Some(&byte) = bytes.next() {
+        message.push(match byte {
+            0xC0 => panic!("a FEND within"),
+            0xDB => match bytes.next() {
+                Some(0xDC) => 0xC0,
+                Some(0xDD) => 0xDB,
+                other => panic!("FESC and {other:?}"),
+            },
+            _ => byte,
+        });
+    }
+    message
+}
+
+impl Bench {
+    /// Lent buffers of right lengths that no set-up has seen.
+    pub fn bare(fram_len: usize) -> Bench {
+        Bench {
+            record: REFUSED,
+            edac: pattern(1_536),
+            fram: pattern(fram_len),
+            sums: vec![0x5555; fram_len / 256],
+            diagnostics: (0..31).map(|i| 0x1111_0000 + i).collect(),
+            message: vec![0xAA; 1_033],
+            reply: vec![0xEE; 2_068],
+        }
+    }
+
+    pub fn set_up(&mut self, address: u8) -> u8 {
+        let (record, answer) = second::set_up(
+            address,
+            &self.edac,
+            &self.fram,
+            &mut self.sums,
+            &self.diagnostics,
+            &self.message,
+            &self.reply,
+        );
+        self.record = record;
+        answer
+    }
+
+    /// A unit that was set up, in bootloader mode, whose receiver is fresh.
+    pub fn fresh() -> Bench {
+        let mut bench = Bench::bare(1_024);
+        assert_eq!(bench.set_up(ADDRESS), 0);
+        bench
+    }
+
+    /// The same in application mode, after a FEND.
+    pub fn application() -> Bench {
+        let mut bench = Bench::fresh();
+        bench.record.mode = Mode::Application;
+        assert_eq!(bench.feed(&[FEND]), [0]);
+        bench
+    }
+
+    /// The same in bootloader mode, after a FEND.
+    pub fn open() -> Bench {
+        let mut bench = Bench::fresh();
+        assert_eq!(bench.feed(&[FEND]), [0]);
+        bench
+    }
+
+    pub fn byte(&mut self, byte: u8) -> (u8, usize) {
+        let (record, answer, sent) = second::step(
+            self.record,
+            byte,
+            &mut self.edac,
+            &mut self.fram,
+            &mut self.sums,
+            &mut self.diagnostics,
+            &mut self.message,
+            &mut self.reply,
+        );
+        self.record = record;
+        (answer, sent)
+    }
+
+    /// The answers to some bytes.
+    pub fn feed(&mut self, bytes: &[u8]) -> Vec<u8> {
+        bytes.iter().map(|&byte| self.byte(byte).0).collect()
+    }
+
+    /// Closes the run that some bytes are in and hands back the last answer and what was sent. Every byte before the FEND
+    /// must be taken without an answer.
+    pub fn run(&mut self, bytes: &[u8]) -> (u8, Vec<u8>) {
+        for &byte in bytes {
+            assert_eq!(self.byte(byte), (0, 0));
+        }
+        let (answer, sent) = self.byte(FEND);
+        (answer, self.reply[..sent].to_vec())
+    }
+
+    /// Sends a message of this unit and checks everything about the reply that holds for all.
+    pub fn send(&mut self, control: u8, data: &[u8]) -> (u8, Option<Reply>) {
+        let (before, source) = (self.reply.clone(), 0x11);
+        let (answer, sent) = self.run(&escaped(&message(
+            self.record.address,
+            source,
+            control,
+            data,
+        )));
+        assert_eq!((self.record.place, self.record.count), (Place::Run, 0));
+        assert_eq!(self.reply[sent.len()..], before[sent.len()..]);
+        if sent.is_empty() {
+            return (answer, None);
+        }
+        let reply = unpacked(&sent);
+        let (body, sum) = reply.split_at(reply.len() - 2);
+        assert_eq!(sum, crc(body).to_le_bytes());
+        assert_eq!((body[0], body[1]), (source, self.record.address));
+        let reply = Reply {
+            destination: body[0],
+            source: body[1],
+            control: body[2],
+            data: body[3..].to_vec(),
+        };
+        (answer, Some(reply))
+    }
+
+    /// Sends a command with poll set that must be done, and hands back the reply's data.
+    pub fn done(&mut self, code: u8, data: &[u8]) -> Vec<u8> {
+        let (answer, reply) = self.send(0x80 | code, data);
+        let reply = reply.unwrap_or_else(|| panic!("answer {answer}, no reply"));
+        assert_eq!((answer, reply.control), (1, 0xA0 | code));
+        reply.data
+    }
+
+    /// Sends a command that must be refused with poll set and with poll clear, and change nothing.
+    pub fn refuses(&mut self, code: u8, data: &[u8]) {
+        let before = self.clone();
+        let (answer, reply) = self.send(0x80 | code, data);
+        let reply = reply.unwrap_or_else(|| panic!("answer {answer}, no reply"));
+        assert_eq!((answer, reply.control), (3, 0x80 | code));
+        assert_eq!(reply.data, data);
+        assert_eq!(self.send(code, data), (4, None));
+        self.same_memory(&before);
+    }
+
+    /// Sends a command that must be answer 10 whatever the poll bit, and change nothing.
+    pub fn hardfaults(&mut self, code: u8, data: &[u8]) {
+        let before = self.clone();
+        assert_eq!(self.send(0x80 | code, data), (10, None));
+        assert_eq!(self.send(code, data), (10, None));
+        self.same_memory(&before);
+        assert_eq!(self.reply, before.reply);
+    }
+
+    /// EDAC, FRAM, sums, diagnostics and mode are as before.
+    pub fn same_memory(&self, before: &Bench) {
+        assert_eq!(self.edac, before.edac);
+        assert_eq!(self.fram, before.fram);
+        assert_eq!(self.sums, before.sums);
+        assert_eq!(self.diagnostics, before.diagnostics);
+        assert_eq!(self.record.mode, before.record.mode);
+    }
+}
+
+/// An address and what follows it, as command data.
+pub fn at(address: u32, rest: &[u8]) -> Vec<u8> {
+    [&address.to_le_bytes(), rest].concat()
+}
+
+pub fn edac_at(address: u16, rest: &[u8]) -> Vec<u8> {
+    [&address.to_le_bytes(), rest].concat()
+}
+
+/// A two-byte count.
+pub fn long(count: u16) -> [u8; 2] {
+    count.to_le_bytes()
+}
+
+/// The data of a CRC command.
+pub fn span(first: u32, last: u32) -> Vec<u8> {
+    at(first, &last.to_le_bytes())
+}
