@@ -1,3 +1,7 @@
 pub mod Cases
+pub mod Replies
 pub mod DemandOne
+pub mod DemandTwo
 pub mod DemandThree
+pub mod Worked
+pub mod Settled

@@ -1,14 +1,24 @@
 -- Calls one after the other, as demands 2 and 3 speak of them. Assumes nothing.
 use Prim.Native.Nat.{ℕ, _+_, _-_, _≤_, _<_}
 use mathlib.Core.Path.{_≡_}
-use mathlib.Core.List.{List, [], _∷_}
-use lib.ListN.{length}
+use mathlib.Core.List.{List, [], _∷_, _++_}
+use lib.ListN.{length, replicate}
+use mathlib.Core.Bool.{cond}
+use mathlib.Core.Logic.{_⊎_}
+use lib.Dec.{eqb}
+use Rattle.line.specs.declared.receiver.Receiver.{Receiver}
+use Rattle.line.specs.declared.receiver.Heard.the-variants as heard
+use Rattle.line.specs.Receiver.{closedOf}
 use Rattle.memory.specs.Fram.{Kept, kept, freshSums, blockStart}
+use Rattle.command.specs.Outcome as command
+use Rattle.command.specs.Command.{Held, commandOf}
 use Rattle.unit.specs.declared.Unit.{Unit}
 use Rattle.unit.specs.declared.Answer.{Answer}
-use Rattle.unit.specs.World.{World, world, Outcome}
+use Rattle.unit.specs.declared.Answer.the-variants.{Taken, Elsewhere}
+use Rattle.unit.specs.World.{World, world, Outcome, outcome, heldOf}
+use Rattle.unit.specs.Replies.{codeOf, replyMessage}
 use Rattle.unit.specs.Steps.{stepOf}
-use Rattle.unit.specs.Runs.{firstOfFram}
+use Rattle.unit.specs.Runs.{longestData, firstOfFram, answered}
 
 -- ---- demand 2: bytes on the line, into what nobody else alters
 
@@ -23,6 +33,32 @@ answering answer rest = record { unit = rest .unit; answers = answer ∷ rest .a
 abbrev pub fedOf : Unit → List ℕ → World → Fed
 fedOf u [] w = record { unit = u; answers = []; world = w }
 fedOf u (byte ∷ bytes) w = let o = stepOf u byte w in answering (o .answer) (fedOf (o .unit) bytes (o .world))
+
+-- `n` bytes taken, and what the byte after them comes to.
+abbrev pub delivering : ℕ → Outcome → Fed
+delivering n o = record { unit = o .unit; answers = replicate n Taken ++ (o .answer ∷ []); world = o .world }
+
+-- Nothing is open: a FEND would close nothing, or an empty run.
+abbrev pub Idle : Receiver → Type 0
+Idle r = (closedOf (r .place) (r .count) ≡ heard.Taken) ⊎ (closedOf (r .place) (r .count) ≡ heard.Empty)
+
+-- What a sound message comes to, by its parts: for this unit's address the command, answered; for another nothing.
+abbrev pub orderedOf : Unit → ℕ → ℕ → ℕ → List ℕ → World → Outcome
+orderedOf u destination source control field w =
+    cond (eqb destination (u .address))
+    (answered u destination source control field (commandOf longestData firstOfFram (codeOf control) (w .diagnostics) (heldOf u w) field) w)
+    (outcome u Elsewhere w)
+
+-- The message that answers a command: the reply with ACK set, or the command's data with ACK clear.
+abbrev pub answerMessage : ℕ → ℕ → ℕ → List ℕ → command.Outcome Held → List ℕ
+answerMessage destination source control field (command.done reply after) = replyMessage 1 destination source control reply
+answerMessage destination source control field command.refused = replyMessage 0 destination source control field
+answerMessage destination source control field command.unfitted = []
+
+-- Each of them a byte.
+abbrev pub Bytes : List ℕ → Type 0
+Bytes [] = Prim.Unit {0}
+Bytes (byte ∷ bytes) = (byte < 256) × Bytes bytes
 
 -- ---- demand 3: only memory, sums and record are the unit's alone
 

@@ -1,0 +1,50 @@
+-- 01's small examples hold: each by computation from the definitions. Assumes nothing.
+use mathlib.Core.Path.{refl}
+use mathlib.Core.List.{List, [], _∷_, _++_}
+use Prim.Native.Nat.{ℕ}
+use lib.ListN.{take, replicate}
+use mathlib.Core.Path.{_≡_}
+use Rattle.crc.specs.Sum.{bitStep, bitSteps, byteStep, sumFrom, sumOf}
+use Rattle.crc.proofs.Examples as sum
+use Rattle.line.proofs.Examples as line
+use Rattle.line.specs.Receiver.{receiveOf, insideOf, afterEscapeOf, closedOf, storedOf, countedOf}
+use Rattle.line.specs.Packing.{escapedOf}
+use Rattle.memory.specs.Bytes.{begun}
+use Rattle.memory.specs.Fram.{freshSums, freshFrom}
+use Rattle.memory.specs.Counts.{countedUp}
+use Rattle.command.proofs.Examples as command
+use Rattle.command.specs.Command.{framCommandOf, commandOf}
+use Rattle.unit.specs.declared.Answer.{Answer}
+use Rattle.unit.specs.declared.Answer.the-variants.{Taken, Acked, Runt}
+use Rattle.unit.specs.Replies.{sealed, replyMessage}
+use Rattle.unit.specs.Fitting.{lengthsFit, setUpFit, stepFit}
+use Rattle.unit.specs.Runs.{saying, answered, commandedOf, runOf}
+use Rattle.unit.specs.Steps.{setUpOf, heardOf, receivedOf, stepOf}
+use Rattle.demands.specs.Calls.{Fed, fedOf}
+use Rattle.demands.specs.Worked.{WorkedExamples, heard}
+
+ping : let f = heard (0xC0 ∷ 0x41 ∷ 0x11 ∷ 0x80 ∷ 0xD8 ∷ 0x6D ∷ 0xC0 ∷ []) in
+    (f .answers ≡ replicate 6 Taken ++ (Acked 24 ∷ [])) × (take 4 (f .world .reply) ≡ 0xC0 ∷ 0x11 ∷ 0x41 ∷ 0xA0 ∷ [])
+unfolding stepOf setUpOf setUpFit stepFit lengthsFit freshSums freshFrom receivedOf receiveOf insideOf closedOf storedOf countedOf heardOf runOf commandedOf answered saying sealed replyMessage commandOf framCommandOf escapedOf begun sumOf sumFrom byteStep bitSteps bitStep
+ping = (refl, refl)
+
+runs : (heard (0xC0 ∷ 0xC0 ∷ []) .answers ≡ Taken ∷ Taken ∷ [])
+    × (heard (0xC0 ∷ 0x01 ∷ 0x02 ∷ 0x03 ∷ 0x04 ∷ 0xC0 ∷ []) .answers ≡ replicate 5 Taken ++ (Runt ∷ []))
+unfolding stepOf setUpOf setUpFit stepFit lengthsFit freshSums freshFrom receivedOf receiveOf insideOf closedOf storedOf countedOf heardOf runOf countedUp
+runs = (refl, refl)
+
+pub the-worked-examples-hold : WorkedExamples
+the-worked-examples-hold = record {
+  P1 = sum.P1;
+  P2 = sum.P2;
+  P3 = sum.P3;
+  P4 = sum.P4;
+  P5 = sum.P5;
+  P6 = ping;
+  P7 = line.P7;
+  P8 = sum.P8;
+  P9 = runs;
+  P10 = command.P10;
+  P11 = command.P11;
+  P12 = command.P12;
+}
