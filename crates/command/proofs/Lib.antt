@@ -3,3 +3,4 @@ pub mod Writing
 pub mod Lists
 pub mod Ways
 pub mod Codes
+pub mod Settled

@@ -1,5 +1,6 @@
 -- `command::ping::ping` meets its contract: the text in one piece. Assumes nothing.
 use mathlib.Core.Path.{refl, _∙_}
+use Rattle.command.specs.Ping.{pingText, pingOf}
 use Rattle.command.proofs.Writing.{one-write, is-done}
 use borrow.Author.Needs.{needs}
 use Rattle.command.proofs.ping.ping.Statement.{statement}
@@ -15,7 +16,7 @@ same-length : tie.Need-same-length
 same-length c = search needs
 
 returns : tie.Need-returns
-returns c = is-done _ _ _ _ 17 tt tt refl refl (c .before .before .put .ensures ∙ one-write _ _)
+returns c = is-done pingOf pingText _ _ 17 tt tt refl refl (c .before .before .put .ensures ∙ one-write _ _)
 
 pub ping-spec : {M : Type 1} → statement M
 ping-spec = tie.close (tie.spec slice-aggregate-put put-requires same-length returns)

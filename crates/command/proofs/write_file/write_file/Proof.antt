@@ -1,17 +1,22 @@
 -- `command::write_file::write_file` meets its contract, by one law for each of its four ways. Assumes nothing.
 use Rattle.memory.specs.Bytes.{begun}
 use Rattle.command.specs.WriteFile.{filesStored}
-use mathlib.Core.Path.{refl, sym, ap, _∙_}
+use mathlib.Core.Path.{_≡_, refl, sym, ap, _∙_}
+use mathlib.Core.Bool.{Bool, true}
 use native.Mathlib.Omega.{arith}
 use lib.ListN.{length}
 use Rattle.command.specs.ReadFile.{filesShown}
-use Rattle.command.specs.WriteFile.{listed, filesOf}
+use Rattle.command.specs.WriteFile.{Listed, listed, whole, filesOf}
 use Rattle.command.proofs.Writing.{is-done-storing, is-refused}
 use Rattle.command.proofs.Ways.{nothing-to-write, files-to-write-without-room, files-are-written, a-cut-list-is-not-written}
 use Rattle.command.proofs.Lists.{length-of-listed-files}
 use borrow.Author.Needs.{needs}
 use Rattle.command.proofs.write_file.write_file.Statement.{statement}
 use Rattle.command.proofs.write_file.write_file.Tie as tie
+
+-- a list that was judged is whole
+judged : (answer : Bool) (l : Listed) → answer ≡ whole l → answer ≡ true → whole l ≡ true
+judged answer l e found = sym e ∙ found
 
 returns : tie.Need-returns
 returns c = is-refused _ _ _ (nothing-to-write _ _ (c .before .before .before .before .args .field .now) (c .if1 .taken))
@@ -23,7 +28,7 @@ is-whole-requires : tie.Need-is-whole-requires
 is-whole-requires c κs = search needs
 
 store-files-requires : tie.Need-store-files-requires
-store-files-requires c κs = (c .before .before .before .before .before .before .before .before .pre .1, sym (c .before .before .is-whole .ensures) ∙ c .before .if3 .taken)
+store-files-requires c κs = search (needs, judged)
 
 show-files-requires : tie.Need-show-files-requires
 show-files-requires c κs = (c .before .before .before .before .store-files .kept .0 ∙ c .before .before .before .before .before .before .before .before .before .before .before .before .before .pre .1, sym (c .before .before .before .before .before .before .before .is-whole .ensures) ∙ c .before .before .before .before .before .before .if3 .taken, omega arith)
