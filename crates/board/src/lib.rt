@@ -1,11 +1,20 @@
 // The C face, as `include/wheel.h` declares it: each function passes on to a room below and adds nothing. A name is the
 // whole program's, as in C, so each begins with `wheel_`.
+mod converting;
+
 ghost use mathlib.Core.Path.{_≡_};
 ghost use Rattle.crc.specs.Sum.{sumFrom, sumOf};
 ghost use Rattle.crc.specs.Joining.{joinOf};
 ghost use Rattle.board.specs.Face.{partIn, joinedOut};
+ghost use Rattle.line.specs.Packing.{packOf};
+ghost use Rattle.unit.specs.World.{world};
+ghost use Rattle.unit.specs.Steps.{setUpOf, stepOf};
+ghost use Rattle.board.specs.Records.{unitIn, left, leftBy, packingBy};
+use converting::stepped_out;
+use converting::unit_in;
 use crc::Joined;
 use crc::Part;
+use line::packing::Packed;
 
 // A part as C holds it.
 #[repr(C)]
@@ -19,6 +28,31 @@ pub struct WheelPart {
 pub struct WheelJoined {
     pub answer: u32,
     pub part: WheelPart,
+}
+
+// A unit's record as C holds it: mode and place by their numbers.
+#[repr(C)]
+pub struct WheelUnit {
+    pub fram_len: u64,
+    pub count: u64,
+    pub address: u8,
+    pub mode: u8,
+    pub place: u8,
+}
+
+// The unit's record afterwards, how many bytes of the reply buffer are to be sent, and the paper's number of the answer.
+#[repr(C)]
+pub struct WheelStepped {
+    pub unit: WheelUnit,
+    pub sent: u64,
+    pub answer: u8,
+}
+
+// How many bytes of the reply buffer are packed, and the paper's number of packing.
+#[repr(C)]
+pub struct WheelPacked {
+    pub sent: u64,
+    pub answer: u8,
 }
 
 #[no_mangle]
@@ -59,6 +93,69 @@ pub extern "C" fn wheel_join(first: WheelPart, second: WheelPart) -> WheelJoined
         Joined::TooLong => WheelJoined {
             answer: 36,
             part: WheelPart { sum: 0, len: 0 },
+        },
+    }
+}
+
+#[no_mangle]
+pub extern "C" fn wheel_set_up(
+    address: u8,
+    edac: &[u8],
+    fram: &[u8],
+    sums: &mut [u16],
+    diagnostics: &[u32],
+    message: &[u8],
+    reply: &[u8],
+) -> WheelStepped
+    ensures { λ r. ⌜ left r (world (now (edac .entry)) (now (fram .entry)) (now (sums .exit)) (now (diagnostics .entry)) (now (message .entry)) (now (reply .entry)))
+        ≡ leftBy (setUpOf address (world (now (edac .entry)) (now (fram .entry)) (now (sums .entry)) (now (diagnostics .entry)) (now (message .entry)) (now (reply .entry)))) ⌝ }
+{
+    stepped_out(unit::set_up(address, edac, fram, sums, diagnostics, message, reply))
+}
+
+#[no_mangle]
+pub extern "C" fn wheel_step(
+    unit: WheelUnit,
+    byte: u8,
+    edac: &mut [u8],
+    fram: &mut [u8],
+    sums: &mut [u16],
+    diagnostics: &mut [u32],
+    message: &mut [u8],
+    reply: &mut [u8],
+) -> WheelStepped
+    ensures { λ r. ⌜ left r (world (now (edac .exit)) (now (fram .exit)) (now (sums .exit)) (now (diagnostics .exit)) (now (message .exit)) (now (reply .exit)))
+        ≡ leftBy (stepOf (unitIn unit) byte (world (now (edac .entry)) (now (fram .entry)) (now (sums .entry)) (now (diagnostics .entry)) (now (message .entry)) (now (reply .entry)))) ⌝ }
+{
+    stepped_out(unit::step(
+        unit_in(unit),
+        byte,
+        edac,
+        fram,
+        sums,
+        diagnostics,
+        message,
+        reply,
+    ))
+}
+
+#[no_mangle]
+pub extern "C" fn wheel_pack(message: &[u8], reply: &mut [u8]) -> WheelPacked
+    ensures { λ r. ⌜ packingBy r (now (reply .exit)) ≡ packOf (now (message .entry)) (now (reply .entry)) ⌝ }
+{
+    let packed = line::packing::pack(message, reply);
+    match packed {
+        Packed::Sent(n) => WheelPacked {
+            sent: n as u64,
+            answer: 0,
+        },
+        Packed::ShortReply => WheelPacked {
+            sent: 0,
+            answer: 25,
+        },
+        Packed::BadLength => WheelPacked {
+            sent: 0,
+            answer: 35,
         },
     }
 }

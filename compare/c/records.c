@@ -1,0 +1,167 @@
+/* The C face's records across the boundary: every field of a record goes in and comes out as it was, with every other field
+ * at odds with it; numbers out of range mean what the header says; every refusal has its number and changes nothing. */
+#include "wheel.h"
+
+#include <stdio.h>
+#include <string.h>
+
+#define FRAM 512u
+#define SUMS (FRAM / WHEEL_FRAM_BLOCK)
+
+struct lent {
+    uint8_t edac[WHEEL_EDAC], fram[FRAM], message[WHEEL_MESSAGE], reply[WHEEL_REPLY];
+    uint16_t sums[SUMS];
+    uint32_t diagnostics[WHEEL_DIAGNOSTICS];
+};
+
+static struct lent lent, before;
+static int bad = 0;
+
+static void same(const char *name, unsigned long long came, unsigned long long due) {
+    if (came != due) {
+        printf("BAD %s: %llx, not %llx\n", name, came, due);
+        bad = 1;
+    }
+}
+
+/* The lengths that are lent, one of which a test makes wrong. */
+struct lengths {
+    size_t edac, fram, sums, diagnostics, message, reply;
+};
+
+static const struct lengths right = {WHEEL_EDAC, FRAM, SUMS, WHEEL_DIAGNOSTICS, WHEEL_MESSAGE, WHEEL_REPLY};
+
+static struct wheel_stepped step(struct wheel_unit unit, uint8_t byte, struct lengths n) {
+    return wheel_step(unit, byte, lent.edac, n.edac, lent.fram, n.fram, lent.sums, n.sums, lent.diagnostics, n.diagnostics,
+                      lent.message, n.message, lent.reply, n.reply);
+}
+
+static struct wheel_stepped set_up(uint8_t address, struct lengths n) {
+    return wheel_set_up(address, lent.edac, n.edac, lent.fram, n.fram, lent.sums, n.sums, lent.diagnostics, n.diagnostics,
+                        lent.message, n.message, lent.reply, n.reply);
+}
+
+static void same_unit(const char *name, struct wheel_unit came, struct wheel_unit due) {
+    same(name, came.fram_len, due.fram_len);
+    same(name, came.count, due.count);
+    same(name, came.address, due.address);
+    same(name, came.mode, due.mode);
+    same(name, came.place, due.place);
+}
+
+static void refused(const char *name, struct wheel_stepped came, unsigned answer, struct wheel_unit due) {
+    same(name, came.answer, answer);
+    same(name, came.sent, 0);
+    same_unit(name, came.unit, due);
+    same(name, (unsigned long long)memcmp(&lent, &before, sizeof lent), 0);
+}
+
+int main(void) {
+    for (size_t i = 0; i < sizeof lent; i++) {
+        ((uint8_t *)&lent)[i] = (uint8_t)(i * 7 + i / 251);
+    }
+    before = lent;
+
+    /* A refused call hands the record back: every field, with all bits of the wide ones. */
+    const uint64_t wide[] = {0, 1, 0x0123456789ABCDEFu, 0xFEDCBA9876543210u, 0xFFFFFFFFFFFFFFFFu};
+    for (size_t i = 0; i < 5; i++) {
+        for (size_t k = 0; k < 5; k++) {
+            for (unsigned n = 0; n < 256; n++) {
+                const struct wheel_unit unit = {wide[i], wide[k], 0xC0, (uint8_t)n, (uint8_t)(255 - n)};
+                const struct wheel_unit due = {wide[i], wide[k], 0xC0, n == 0 ? 0 : 1, 255 - n > 3 ? 3 : (uint8_t)(255 - n)};
+                refused("a record", step(unit, (uint8_t)n, right), WHEEL_BAD_ADDRESS, due);
+            }
+        }
+    }
+    for (unsigned address = 0; address < 256; address++) {
+        const struct wheel_unit unit = {0x1122334455667788u, 5, (uint8_t)address, 1, 2};
+        const int no = address == 0x00 || address == 0xC0 || address == 0xDB;
+        refused("an address", step(unit, 0, right), no ? WHEEL_BAD_ADDRESS : WHEEL_BAD_FRAM, unit);
+    }
+
+    /* Set-up: its refusals, and then its record and sums. */
+    const struct wheel_unit nobody = {0, 0, 0, 0, 0};
+    refused("set-up 20", set_up(0xDB, right), WHEEL_BAD_ADDRESS, nobody);
+    struct lengths n = right;
+    n.edac--;
+    refused("set-up 21", set_up(0x41, n), WHEEL_BAD_EDAC, nobody);
+    n = right, n.fram--;
+    refused("set-up 22", set_up(0x41, n), WHEEL_BAD_FRAM, nobody);
+    n = right, n.sums--;
+    refused("set-up 23", set_up(0x41, n), WHEEL_BAD_SUMS, nobody);
+    n = right, n.diagnostics--;
+    refused("set-up 24", set_up(0x41, n), WHEEL_BAD_DIAGNOSTICS, nobody);
+    n = right, n.message--;
+    refused("set-up 25", set_up(0x41, n), WHEEL_BAD_BUFFERS, nobody);
+    n = right, n.reply--;
+    refused("set-up 25", set_up(0x41, n), WHEEL_BAD_BUFFERS, nobody);
+    const struct wheel_unit fresh = {FRAM, 0, 0x41, WHEEL_BOOTLOADER, WHEEL_FRESH};
+    struct wheel_stepped now = set_up(0x41, right);
+    for (size_t block = 0; block < SUMS; block++) {
+        before.sums[block] = wheel_crc(before.fram + block * WHEEL_FRAM_BLOCK, WHEEL_FRAM_BLOCK);
+    }
+    refused("set up", now, WHEEL_TAKEN, fresh);
+
+    /* A byte: its refusals, and each place. */
+    const struct wheel_unit fits = {FRAM, 1034, 0x41, WHEEL_APPLICATION, WHEEL_RUN};
+    n = right, n.edac--;
+    refused("step 21", step(fits, 0xC0, n), WHEEL_BAD_EDAC, fits);
+    n = right, n.sums--;
+    refused("step 23", step(fits, 0xC0, n), WHEEL_BAD_SUMS, fits);
+    n = right, n.diagnostics--;
+    refused("step 24", step(fits, 0xC0, n), WHEEL_BAD_DIAGNOSTICS, fits);
+    n = right, n.message--;
+    refused("step 25", step(fits, 0xC0, n), WHEEL_BAD_BUFFERS, fits);
+    n = right, n.reply--;
+    refused("step 25", step(fits, 0xC0, n), WHEEL_BAD_BUFFERS, fits);
+    struct wheel_unit unit = fits;
+    unit.count = 1035;
+    refused("step 26", step(unit, 0xC0, right), WHEEL_BAD_COUNT, unit);
+    refused("a fresh unit", step(fresh, 0x55, right), WHEEL_TAKEN, fresh);
+    unit = fresh, unit.place = WHEEL_RUN;
+    refused("the first FEND", step(fresh, 0xC0, right), WHEEL_TAKEN, unit);
+    unit = fits, unit.place = WHEEL_ESCAPE;
+    refused("FESC", step(fits, 0xDB, right), WHEEL_TAKEN, unit);
+    struct wheel_unit fault = fits;
+    fault.place = WHEEL_FAULT;
+    refused("FESC and another byte", step(unit, 0x00, right), WHEEL_TAKEN, fault);
+    unit = fault, unit.place = 200;
+    refused("a place out of range", step(unit, 0xDC, right), WHEEL_TAKEN, fault);
+    unit = fits, unit.count = 0;
+    before.diagnostics[7]++;
+    refused("framing", step(fault, 0xC0, right), WHEEL_FRAMING, unit);
+    before.diagnostics[9]++;
+    refused("oversize", step(fits, 0xC0, right), WHEEL_OVERSIZE, unit);
+    struct wheel_unit four = fits;
+    four.count = 4;
+    before.diagnostics[8]++;
+    refused("runt", step(four, 0xC0, right), WHEEL_RUNT, unit);
+    four.count = 5;
+    before.diagnostics[10]++;
+    refused("bad CRC", step(four, 0xC0, right), WHEEL_BAD_CRC, unit);
+    four.count = 7;
+    before.message[7] = lent.message[7];
+    struct wheel_stepped stored = step(four, 0xA5, right);
+    before.message[7] = 0xA5;
+    four.count = 8;
+    refused("a byte stored", stored, WHEEL_TAKEN, four);
+
+    /* Packing: its refusals, and a message with both escapes. */
+    static const uint8_t message[6] = {0x11, 0xC0, 0xDB, 0x00, 0xFF, 0x41};
+    static const uint8_t packed[10] = {0xC0, 0x11, 0xDB, 0xDC, 0xDB, 0xDD, 0x00, 0xFF, 0x41, 0xC0};
+    struct wheel_packed sent = wheel_pack(message, 6, lent.reply, WHEEL_REPLY - 1);
+    same("packing 25", sent.answer, WHEEL_BAD_BUFFERS);
+    same("packing 25", sent.sent, 0);
+    sent = wheel_pack(message, 4, lent.reply, WHEEL_REPLY);
+    same("packing 35", sent.answer, WHEEL_BAD_LENGTH);
+    same("packing 35", sent.sent, 0);
+    same("packing writes nothing", (unsigned long long)memcmp(&lent, &before, sizeof lent), 0);
+    sent = wheel_pack(message, 6, lent.reply, WHEEL_REPLY);
+    memcpy(before.reply, packed, sizeof packed);
+    same("packed", sent.answer, WHEEL_TAKEN);
+    same("packed", sent.sent, sizeof packed);
+    same("packed", (unsigned long long)memcmp(&lent, &before, sizeof lent), 0);
+
+    puts(bad ? "the C records: BAD" : "the C records: ok");
+    return bad;
+}

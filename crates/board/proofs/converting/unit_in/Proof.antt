@@ -1,0 +1,16 @@
+-- `board::converting::unit_in` meets its contract: each field is the one meant. Assumes nothing.
+use borrow.Author.Needs.{needs}
+use Rattle.board.proofs.converting.unit_in.Statement.{statement}
+use Rattle.board.proofs.converting.unit_in.Tie as tie
+
+mode-in-requires : tie.Need-mode-in-requires
+mode-in-requires c κs = search needs
+
+place-in-requires : tie.Need-place-in-requires
+place-in-requires c κs = search needs
+
+returns : tie.Need-returns
+returns c = rw (c .before .mode-in .ensures, c .place-in .ensures)
+
+pub unit-in-spec : {M : Type 1} → statement M
+unit-in-spec = tie.close (tie.spec mode-in-requires place-in-requires returns)

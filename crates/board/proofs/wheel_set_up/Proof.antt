@@ -1,0 +1,20 @@
+-- `board::wheel_set_up` meets its contract: what `unit::set_up` ensures, put into C's form. Assumes nothing.
+use Rattle.board.proofs.Passing.{passed-on}
+use borrow.Author.Needs.{needs}
+use Rattle.board.proofs.wheel_set_up.Statement.{statement}
+use Rattle.board.proofs.wheel_set_up.Tie as tie
+
+set-up-requires : tie.Need-set-up-requires
+set-up-requires c κs = search needs
+
+stepped-out-requires : tie.Need-stepped-out-requires
+stepped-out-requires c κs = search needs
+
+same-length : tie.Need-same-length
+same-length c = search needs
+
+returns : tie.Need-returns
+returns c = passed-on _ _ _ _ (c .stepped-out .ensures) (c .before .before .before .set-up .ensures)
+
+pub wheel-set-up-spec : {M : Type 1} → statement M
+wheel-set-up-spec = tie.close (tie.spec set-up-requires stepped-out-requires same-length returns)
