@@ -56,7 +56,7 @@ fn place_out(place: Place) -> u8
     }
 }
 
-fn answer_number(answer: Answer) -> u8
+pub fn answer_number(answer: Answer) -> u8
     ensures { λ r. ⌜ r ≡ numberOf answer ⌝ }
 {
     match answer {
@@ -81,7 +81,7 @@ fn answer_number(answer: Answer) -> u8
     }
 }
 
-fn sent_by(answer: Answer) -> u64
+pub fn sent_by(answer: Answer) -> u64
     ensures { λ r. ⌜ r ≡ sentOf answer ⌝ }
 {
     match answer {

@@ -1,6 +1,6 @@
 // The C face, as `include/wheel.h` declares it: each function passes on to a room below and adds nothing. A name is the
 // whole program's, as in C, so each begins with `wheel_`.
-mod converting;
+pub mod converting;
 
 ghost use mathlib.Core.Path.{_≡_};
 ghost use Rattle.crc.specs.Sum.{sumFrom, sumOf};

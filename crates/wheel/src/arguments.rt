@@ -1,0 +1,80 @@
+// The program's arguments: a unit address and a size of FRAM, each in decimal, or in hexadecimal after 0x.
+
+// What a word stands for that is no number, or a larger one than any that is asked for.
+pub const BAD: u64 = 0xffff_ffff;
+
+// The numbers that were given, or those that are taken where none was: BAD for a word that is no number.
+pub struct Wanted {
+    pub address: u64,
+    pub fram: u64,
+}
+
+// What a digit counts, and 16 for a byte that is none.
+fn digit(byte: u8) -> u8 {
+    match byte {
+        b'0'..=b'9' => byte - b'0',
+        b'a'..=b'f' => byte - b'a' + 10,
+        b'A'..=b'F' => byte - b'A' + 10,
+        _ => 16,
+    }
+}
+
+// A number with one digit more.
+fn longer(value: u64, is_hex: bool, byte: u8) -> u64 {
+    if value > 0xff_ffff {
+        return BAD;
+    }
+    let next = digit(byte) as u64;
+    if next > 15 {
+        return BAD;
+    }
+    if is_hex {
+        return value * 16 + next;
+    }
+    if next > 9 {
+        return BAD;
+    }
+    value * 10 + next
+}
+
+// The number that the digits from a place on stand for.
+fn value(text: &[u8], from: usize, is_hex: bool) -> u64 {
+    if from >= text.len() {
+        return BAD;
+    }
+    let mut value: u64 = 0;
+    let mut i = from;
+    while i < text.len() {
+        value = longer(value, is_hex, text[i]);
+        i += 1;
+    }
+    value
+}
+
+fn number(text: &[u8]) -> u64 {
+    if text.len() > 2 {
+        if text[0] == b'0' {
+            if text[1] == b'x' {
+                return value(text, 2, true);
+            }
+        }
+    }
+    value(text, 0, false)
+}
+
+// The number of one argument, or the one that is taken where there is none.
+fn argument(place: usize, otherwise: u64) -> u64 {
+    if os::arg_count() <= place {
+        return otherwise;
+    }
+    let mut text = io::buffer();
+    let length = os::arg(place, &mut text);
+    number(&text[..length])
+}
+
+pub fn taken() -> Wanted {
+    Wanted {
+        address: argument(1, 0x41),
+        fram: argument(2, 65_536),
+    }
+}
