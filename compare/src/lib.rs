@@ -5,7 +5,6 @@ pub mod plain;
 pub mod proved;
 pub mod record;
 pub mod second;
-#[cfg(feature = "unit")]
 pub mod unit;
 pub mod wheel;
 

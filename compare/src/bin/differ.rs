@@ -1,5 +1,5 @@
-//! `differ MEGABYTES [SEED]` or `differ forever`: holds two wheels against each other over seeded streams of line bytes.
-//! With the feature `unit` they are the proved unit and the second program; without it, the second program and itself.
+//! `differ MEGABYTES [SEED]` or `differ forever`: holds the proved unit and the second program against each other over seeded
+//! streams of line bytes.
 //! Sessions have the seeds SEED, SEED + 1 and so on, so `differ 1 SEED` with a printed seed has a difference again at once.
 
 use compare::differ::{session, Tally};
@@ -10,14 +10,8 @@ use std::time::{Instant, SystemTime, UNIX_EPOCH};
 const USAGE: &str = "differ MEGABYTES [SEED], or differ forever";
 const MEGABYTE: u64 = 1_000_000;
 
-#[cfg(feature = "unit")]
 fn first() -> (&'static str, &'static dyn Wheel) {
     ("the proved unit", &compare::unit::Proved)
-}
-
-#[cfg(not(feature = "unit"))]
-fn first() -> (&'static str, &'static dyn Wheel) {
-    ("the second program", &Second)
 }
 
 /// How many bytes to feed, and the first seed.
