@@ -3,15 +3,16 @@
 use mathlib.Core.Path.{_≡_, refl, sym, ap, ap₂, _∙_, subst}
 use mathlib.Core.Bool.{Bool, true, false, cond, _&&_, false≢true}
 use mathlib.Core.List.{List, [], _∷_, _++_}
-use Prim.Native.Nat.{ℕ, _+_, _-_, _*_, _/_, _%_, _^_, _≤_, _<_}
+use Prim.Native.Nat.{ℕ, suc, _+_, _-_, _*_, _/_, _%_, _^_, _≤_, _<_}
 use native.Mathlib.Omega.{arith}
-use borrow.Author.Tests.{le-leb, lt-leb, eqb-true}
+use borrow.Author.Tests.{le-leb, lt-leb, eqb-true, eq-eqb}
 use lib.Dec.{leb, ltb, eqb}
 use lib.ListN.{length, take, drop, getD, length-drop}
 use Rattle.crc.specs.Sum.{sumOf}
 use Rattle.line.specs.declared.receiver.Heard.{Heard}
 use Rattle.line.specs.declared.receiver.Heard.the-variants as heard
-use Rattle.line.specs.Receiver.{receiveOf}
+use Rattle.line.specs.Receiver.{opened, receiveOf}
+use Rattle.line.specs.Packing.{bodyOf, packedOf}
 use Rattle.field.specs.Fields.{word16At, word32At, bytes16, bytes32}
 use Rattle.memory.specs.Bytes.{stretch}
 use Rattle.memory.specs.declared.fram.Found.{Found}
@@ -34,16 +35,18 @@ use Rattle.command.proofs.Ways.{a-place-lies-inside, crc-inside}
 use Rattle.command.proofs.Codes.{code-below-files, code-of-crc}
 use Rattle.unit.specs.declared.Unit.{Unit}
 use Rattle.unit.specs.declared.Answer.{Answer}
-use Rattle.unit.specs.declared.Answer.the-variants.{Taken}
+use Rattle.unit.specs.declared.Answer.the-variants.{Taken, Elsewhere}
 use Rattle.unit.specs.declared.Fit.{Fit}
 use Rattle.unit.specs.declared.Fit.the-variants.{Fits, Unfit}
+use Rattle.unit.specs.Replies.{codeOf, sealed}
 use Rattle.unit.specs.World.{World, lengthsOf, Outcome, outcome, withReceiver, withMessage, heldOf}
 use Rattle.unit.specs.Fitting.{messageSize, framFits, setUpFit, stepFit}
 use Rattle.unit.specs.Runs.{longestData, firstOfFram, saying, inWorld, answered, commandedOf, soundOf, runOf}
 use Rattle.unit.specs.Steps.{unless, setUpOf, heardOf, receivedOf, stepOf}
 use Rattle.unit.proofs.Serving.{all-passed, a-served-set-up-fits, set-up-served}
-use Rattle.demands.specs.Calls.{Call, Own, own, lending, ownOf, calledOf, Right, Inside}
+use Rattle.demands.specs.Calls.{fedOf, delivering, Idle, Bytes, Call, Own, own, lending, ownOf, calledOf, Right, Inside}
 use Rattle.demands.proofs.Cases.{either-way}
+use Rattle.demands.proofs.DemandTwo.{a-packed-command-is-carried-out}
 
 -- what is kept from call to call: right sums, and the memory's length
 abbrev Good : ℕ → Kept → Type 0
@@ -240,6 +243,24 @@ module _ (blocks : ℕ) (memory : Kept) (right : Right memory) (whole : length (
   unfolding commandOf framCommandOf
   the-command-answers-it mode edac diagnostics = ap (λ o. inside (λ m. held mode edac m) (reading memory o)) a-fresh-answer
 
+byte-below : (n : ℕ) → n % 256 < 256
+byte-below n = omega arith
+
+eight-bytes : (first last : ℕ) → Bytes (bytes32 first ++ bytes32 last)
+eight-bytes first last = (
+  byte-below first,
+  (
+    byte-below (first / 256),
+    (
+      byte-below (first / 65536),
+      (
+        byte-below (first / 16777216),
+        (byte-below last, (byte-below (last / 256), (byte-below (last / 65536), (byte-below (last / 16777216), tt)))),
+      ),
+    ),
+  ),
+)
+
 -- Demand 3, second sentence. After the same calls, whatever they were, a CRC command (0x06) with any range inside FRAM, in either
 -- mode and with any diagnostics, is done, changes nothing and answers the CRC of the bytes now stored there, worked out afresh.
 pub the-CRC-answered-is-fresh : (address : ℕ) (w : World) → setUpFit address (lengthsOf w) ≡ Fits → (calls : List Call) (diagnostics : List ℕ) (first last : ℕ)
@@ -255,3 +276,36 @@ the-CRC-answered-is-fresh address w e calls diagnostics first last range =
     the-command-answers-it (length (w .sums)) (s .memory) (good .0) (good .1 ∙ a-served-set-up-fits address w e .sums-fit)
     (subst (λ n. n ≤ 262144) (sym (good .1)) (no-longer (length (w .fram)) (all-passed address (framFits (length (w .fram))) (lengthsOf w) Fits e .fram-tested)))
     first last range (s .unit .mode) (s .edac) diagnostics
+
+-- The same on the line. Let such a unit, with nothing open, be sent a CRC command for its own address, from any source and with any
+-- poll, B and ACK bits, for a range inside FRAM, by calls that are served and lent anything else. It is done, and what it answers, with
+-- the range as it was asked, is the CRC of the bytes now stored there.
+pub the-CRC-sent-is-fresh : (address : ℕ) (w : World) → setUpFit address (lengthsOf w) ≡ Fits → (calls : List Call) (lent : Call) (source control first last : ℕ)
+    → let s = calledOf (ownOf (setUpOf address w)) calls in
+    let v = lending s lent in
+    let field = bytes32 first ++ bytes32 last in
+    let sent = sealed (s .unit .address ∷ source ∷ control ∷ field) in
+    Inside (s .memory) first last
+    → stepFit (s .unit) (lengthsOf v) ≡ Fits
+    → Idle (s .unit .receiver)
+    → Bytes (s .unit .address ∷ source ∷ control ∷ [])
+    → codeOf control ≡ 0x06
+    → fedOf (s .unit) (packedOf sent) v
+    ≡ delivering (suc (length (bodyOf sent)))
+    (answered (withReceiver (s .unit) opened) (s .unit .address) source control field
+    (command.done (field ++ bytes16 (sumOf (stretch (first - firstOfFram) (last - first + 1) (s .memory .fram)))) (held (s .unit .mode) (s .edac) (s .memory)))
+    (withMessage v (sent ++ drop (length sent) (v .message))))
+the-CRC-sent-is-fresh address w e calls lent source control first last range fit idle head code =
+    let s = calledOf (ownOf (setUpOf address w)) calls in
+    let v = lending s lent in
+    let field = bytes32 first ++ bytes32 last in
+    let sent = sealed (s .unit .address ∷ source ∷ control ∷ field) in
+    let u = withReceiver (s .unit) opened in
+    let after = withMessage v (sent ++ drop (length sent) (v .message)) in
+    let came = commandOf longestData firstOfFram (codeOf control) (lent .diagnostics) (held (s .unit .mode) (s .edac) (s .memory)) field in
+    a-packed-command-is-carried-out (s .unit) v fit (s .unit .address) source control field (head .0, (head .1 .0, (head .1 .1 .0, eight-bytes first last))) (omega arith) idle
+    ∙ ap (delivering (suc (length (bodyOf sent))))
+    (ap (λ t. cond t (answered u (s .unit .address) source control field came after) (outcome u Elsewhere after)) (eq-eqb (s .unit .address) (s .unit .address) refl)
+    ∙ ap (λ o. answered u (s .unit .address) source control field o after)
+    (ap (λ (n : ℕ). commandOf longestData firstOfFram n (lent .diagnostics) (held (s .unit .mode) (s .edac) (s .memory)) field) code
+    ∙ the-CRC-answered-is-fresh address w e calls (lent .diagnostics) first last range))
