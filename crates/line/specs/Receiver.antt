@@ -65,7 +65,7 @@ afterEscapeOf largest count byte message =
     (unpackedOf largest count fesc message)
     (outcomeOf (takenOf Fault count) message))
 
--- a byte other than FEND: "a fresh receiver throws away everything before the first FEND, uncounted"; bytes "after a framing fault are
+-- a byte other than FEND: "a fresh receiver throws away everything before the first FEND, uncounted"; bytes "after a framing fault, are
 -- not stored", and nothing in them means anything
 unfoldable pub insideOf : ℕ → Place → ℕ → ℕ → List ℕ → Outcome
 insideOf largest Fresh count byte message = outcomeOf (takenOf Fresh count) message
