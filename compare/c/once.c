@@ -1,10 +1,46 @@
-/* One call of the C face, for an instruction count: `once crc LENGTH` over zeros, `once join LENGTH`, `once set_up FRAM`; and
-   LENGTH calls: `once step LENGTH`, of ordinary bytes in a run. It fails where an answer is not the one that is due. */
+/* One call of the C face, for an instruction count: `once crc LENGTH` over zeros, `once join LENGTH`, `once set_up FRAM`,
+   `once last CODE`, the FEND after the dearest message known of that command; and LENGTH calls: `once step LENGTH`, of
+   ordinary bytes in a run. It fails where an answer is not the one that is due. */
 #include "wheel.h"
 
 #include <stdio.h>
 #include <stdlib.h>
 #include <string.h>
+
+/* The data of a command that costs much: its length. */
+static size_t dear(unsigned long code, uint8_t *data) {
+    static const uint8_t second[8] = {0x01, 0x00, 0x04, 0x20, 0xFE, 0xFF, 0x07, 0x20};
+    size_t length = 0;
+    memset(data, 0xC0, 1028);
+    if (code == 0x03 || code == 0x06) { /* POKE over five blocks; CRC from the second byte to the last but one */
+        memcpy(data, second, sizeof second);
+        return code == 0x03 ? 1028 : 8;
+    }
+    if (code == 0x08) { /* WRITE FILE: 202 files and 3 times file 0 */
+        for (int i = 0; i < 205; i++) {
+            data[length] = i < 202 ? 1 : 0;
+            length += i < 202 ? 5 : 6;
+        }
+        return length;
+    }
+    for (int i = 0; i < 205; i++, length += 4) { /* GATHER: 204 ranges of 1 byte, one of 4 */
+        data[length] = data[length + 1] = data[length + 3] = 0;
+        data[length + 2] = i < 204 ? 1 : 4;
+    }
+    return length;
+}
+
+/* The message CRC bit by bit: the proved one would be counted. */
+static uint16_t crc(const uint8_t *bytes, size_t length) {
+    uint16_t sum = 0xFFFF;
+    for (size_t i = 0; i < length; i++) {
+        sum ^= bytes[i];
+        for (int bit = 0; bit < 8; bit++) {
+            sum = (uint16_t)(sum & 1 ? (sum >> 1) ^ 0x8408 : sum >> 1);
+        }
+    }
+    return sum;
+}
 
 int main(int count, char **words) {
     static uint8_t bytes[131072];
@@ -26,6 +62,20 @@ int main(int count, char **words) {
             return wheel_set_up(0x41, edac, WHEEL_EDAC, fram, number, sums, number / WHEEL_FRAM_BLOCK, diagnostics,
                                 WHEEL_DIAGNOSTICS, message, WHEEL_MESSAGE, reply, WHEEL_REPLY)
                        .answer != WHEEL_TAKEN;
+        }
+        if (strcmp(words[1], "last") == 0) {
+            const size_t end = 3 + dear(number, message + 3);
+            message[0] = 0x41;
+            message[2] = (uint8_t)(0x80 + number);
+            message[end + 1] = (uint8_t)(crc(message, end) >> 8);
+            message[end] = (uint8_t)crc(message, end);
+            memset(edac, 0xC0, WHEEL_EDAC);
+            unit.fram_len = WHEEL_FRAM_MOST;
+            unit.mode = WHEEL_APPLICATION;
+            unit.count = end + 2;
+            return wheel_step(unit, 0xC0, edac, WHEEL_EDAC, fram, WHEEL_FRAM_MOST, sums, WHEEL_FRAM_MOST / WHEEL_FRAM_BLOCK,
+                              diagnostics, WHEEL_DIAGNOSTICS, message, WHEEL_MESSAGE, reply, WHEEL_REPLY)
+                       .answer != WHEEL_ACKED;
         }
         if (strcmp(words[1], "step") != 0) {
             return 1;
