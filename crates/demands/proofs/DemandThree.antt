@@ -5,12 +5,15 @@ use mathlib.Core.Bool.{Bool, true, false, cond, _&&_, false≢true}
 use mathlib.Core.List.{List, [], _∷_, _++_}
 use Prim.Native.Nat.{ℕ, suc, _+_, _-_, _*_, _/_, _%_, _^_, _≤_, _<_}
 use native.Mathlib.Omega.{arith}
-use borrow.Author.Tests.{le-leb, lt-leb, eqb-true, eq-eqb}
+use borrow.Author.Tests.{le-leb, lt-leb, eqb-true, eq-eqb, le-ltb}
 use lib.Dec.{leb, ltb, eqb}
 use lib.ListN.{length, take, drop, getD, length-drop}
 use Rattle.crc.specs.Sum.{sumOf}
 use Rattle.line.specs.declared.receiver.Heard.{Heard}
 use Rattle.line.specs.declared.receiver.Heard.the-variants as heard
+use Rattle.line.specs.declared.receiver.Receiver.{Receiver}
+use Rattle.line.proofs.Bounds.{the-count-never-passes-one-above-the-largest}
+use Rattle.line.specs.Framing.{fend}
 use Rattle.line.specs.Receiver.{opened, receiveOf}
 use Rattle.line.specs.Packing.{bodyOf, packedOf}
 use Rattle.field.specs.Fields.{word16At, word32At, bytes16, bytes32}
@@ -19,7 +22,7 @@ use Rattle.memory.specs.declared.fram.Found.{Found}
 use Rattle.memory.specs.declared.fram.Found.the-variants.{At, Outside}
 use Rattle.memory.specs.Fram.{Kept, kept, blockStart, freshSums, storeOf, rangeSum, placeOf}
 use Rattle.memory.proofs.Tests.{either-side}
-use Rattle.memory.proofs.Refreshing.{right-sums-stay-right, a-store-keeps-the-memory's-length}
+use Rattle.memory.proofs.Refreshing.{fresh-length, right-sums-stay-right, a-store-keeps-the-memory's-length}
 use Rattle.memory.proofs.Ranges.{a-range-under-right-sums-is-fresh}
 use Rattle.command.specs.declared.Mode.{Mode}
 use Rattle.command.specs.declared.Mode.the-variants.{Bootloader, Application}
@@ -38,15 +41,18 @@ use Rattle.unit.specs.declared.Answer.{Answer}
 use Rattle.unit.specs.declared.Answer.the-variants.{Taken, Elsewhere}
 use Rattle.unit.specs.declared.Fit.{Fit}
 use Rattle.unit.specs.declared.Fit.the-variants.{Fits, Unfit}
-use Rattle.unit.specs.Replies.{codeOf, sealed}
+use Rattle.unit.specs.Replies.{codeOf, polls, sealed, replyMessage}
+use Rattle.unit.specs.Answers.{sentOf}
 use Rattle.unit.specs.World.{World, lengthsOf, Outcome, outcome, withReceiver, withMessage, heldOf}
-use Rattle.unit.specs.Fitting.{messageSize, framFits, setUpFit, stepFit}
+use Rattle.unit.specs.Fitting.{forbidden, framAsSetUp, lengthsFit, channels, messageSize, replySize, framFits, setUpFit, stepFit}
+use Rattle.memory.specs.Edac.{edacSize}
 use Rattle.unit.specs.Runs.{longestData, firstOfFram, saying, inWorld, answered, commandedOf, soundOf, runOf}
 use Rattle.unit.specs.Steps.{unless, setUpOf, heardOf, receivedOf, stepOf}
-use Rattle.unit.proofs.Serving.{all-passed, a-served-set-up-fits, set-up-served}
-use Rattle.demands.specs.Calls.{fedOf, delivering, Idle, Bytes, Call, Own, own, lending, ownOf, calledOf, Right, Inside}
+use Rattle.unit.proofs.Serving.{Passed, all-passed, a-served-set-up-fits, set-up-served}
+use Rattle.demands.specs.Calls.{Lent, lentTo, Fed, fedOf, bytesOf, delivering, Suits, AllSuit, Idle, Bytes, Call, with-its-memory, with-another, Own, own, lending, ownOf, calledOf, Right, Inside}
 use Rattle.demands.proofs.Cases.{either-way}
-use Rattle.demands.proofs.DemandTwo.{a-packed-command-is-carried-out}
+use Rattle.demands.proofs.DemandOne.{what-every-answer-leaves}
+use Rattle.demands.proofs.DemandTwo.{heard-keeps-the-receiver, a-packed-command-is-carried-out, what-is-sent-is-the-packed-answer}
 
 -- what is kept from call to call: right sums, and the memory's length
 abbrev Good : ℕ → Kept → Type 0
@@ -157,23 +163,56 @@ step-keeps size u byte w good = apart (stepFit u (lengthsOf w))
         heard-keeps size (withReceiver u (receiveOf messageSize (u .receiver) byte (w .message) .receiver)) (receiveOf messageSize (u .receiver) byte (w .message) .heard)
         (withMessage w (receiveOf messageSize (u .receiver) byte (w .message) .message)) good
 
+step-low : (u : Unit) (byte : ℕ) (w : World) → u .receiver .count ≤ 1034 → stepOf u byte w .unit .receiver .count ≤ 1034
+unfolding stepOf receivedOf
+step-low u byte w low = apart (stepFit u (lengthsOf w))
+  where
+    apart : (f : Fit) → unless f u w (receivedOf u byte w) .unit .receiver .count ≤ 1034
+    apart (Unfit answer) = low
+    apart Fits =
+        let next = receiveOf messageSize (u .receiver) byte (w .message) in
+        subst (λ (r : Receiver). r .count ≤ 1034) (sym (heard-keeps-the-receiver (withReceiver u (next .receiver)) (next .heard) (withMessage w (next .message))))
+        (the-count-never-passes-one-above-the-largest messageSize (byte ∷ []) (u .receiver) (w .message) low)
+
+-- what a unit has from its set-up on
+record Goes (address size : ℕ) (s : Own) : Type 0 where
+  good : Good size (s .memory)
+  same-address : s .unit .address ≡ address
+  same-length : s .unit .«fram_len» ≡ size
+  low : s .unit .receiver .count ≤ 1034
+
+goes-on : (address size : ℕ) (s : Own) (byte : ℕ) (w : World) (memory : Kept) → Goes address size s → Good size memory → Goes address size (own (stepOf (s .unit) byte w .unit) memory)
+goes-on address size s byte w memory g good =
+    let leaves = what-every-answer-leaves (s .unit) byte w in record {
+      good = good;
+      same-address = leaves .address ∙ g .same-address;
+      same-length = leaves .fram-length ∙ g .same-length;
+      low = step-low (s .unit) byte w (g .low);
+    }
+
 -- and any calls
-calls-keep : (size : ℕ) (calls : List Call) (s : Own) → Good size (s .memory) → Good size (calledOf s calls .memory)
-calls-keep size [] s good = good
-calls-keep size (c ∷ calls) s good =
-    calls-keep size calls (ownOf (stepOf (s .unit) (c .byte) (lending s c))) (step-keeps size (s .unit) (c .byte) (lending s c) good)
+calls-keep : (address size : ℕ) (calls : List Call) (s : Own) → Goes address size s → Goes address size (calledOf s calls)
+calls-keep address size [] s g = g
+calls-keep address size (with-its-memory c message ∷ calls) s g =
+    let o = stepOf (s .unit) (c .byte) (lending s c message) in
+    calls-keep address size calls (ownOf o)
+    (goes-on address size s (c .byte) (lending s c message) (kept (o .world .fram) (o .world .sums)) g (step-keeps size (s .unit) (c .byte) (lending s c message) (g .good)))
+calls-keep address size (with-another byte w ∷ calls) s g =
+    calls-keep address size calls (own (stepOf (s .unit) byte w .unit) (s .memory)) (goes-on address size s byte w (s .memory) g (g .good))
 
 -- set-up makes all sums right
-set-up-is-right : (address : ℕ) (w : World) → setUpFit address (lengthsOf w) ≡ Fits → GoodWorld (length (w .fram)) (setUpOf address w .world)
-set-up-is-right address w e = subst (λ o. GoodWorld (length (w .fram)) (o .world)) (set-up-served address w (freshSums (w .fram)) e refl) (refl, refl)
+set-up-goes : (address : ℕ) (w : World) → setUpFit address (lengthsOf w) ≡ Fits → Goes address (length (w .fram)) (ownOf (setUpOf address w))
+set-up-goes address w e =
+    subst (λ o. Goes address (length (w .fram)) (ownOf o)) (set-up-served address w (freshSums (w .fram)) e refl)
+    (record { good = (refl, refl); same-address = refl; same-length = refl; low = omega arith })
 
--- Demand 3, first sentence. Take a unit that was set up, and let nothing but the unit change its memory, sums or record. After any
--- calls, whatever bytes and whatever message buffers, reply buffers and diagnostics they lend, each block's kept sum is the CRC of
--- that block as it now stands.
+-- Demand 3, on the sums. Take a unit that was set up, and let nothing but the unit change its FRAM, sums or record. After any calls,
+-- whatever bytes and whatever else they lend, of any length, refused or not, each block's kept sum is the CRC of that block as it now
+-- stands.
 pub after-any-calls-the-sums-are-right : (address : ℕ) (w : World) → setUpFit address (lengthsOf w) ≡ Fits → (calls : List Call)
     → Right (calledOf (ownOf (setUpOf address w)) calls .memory)
 after-any-calls-the-sums-are-right address w e calls =
-    calls-keep (length (w .fram)) calls (ownOf (setUpOf address w)) (set-up-is-right address w e) .0
+    calls-keep address (length (w .fram)) calls (ownOf (setUpOf address w)) (set-up-goes address w e) .good .0
 
 -- ---- the CRC that is answered
 
@@ -211,6 +250,12 @@ no-longer size fits =
     (λ long.
     let no : framFits size ≡ false = ap (λ t. leb 256 size && t && eqb (size % 256) 0) (lt-leb size 262144 long) ∙ both-no (leb 256 size) (eqb (size % 256) 0) in
     absurd (false≢true (sym no ∙ fits)))
+
+done-is-not-unfitted : {M : Type 0} {reply : List ℕ} {after : M} → command.done reply after ≡ command.unfitted → ⊥
+done-is-not-unfitted e = let z : _≡_ {A = ℕ} 0 1 = cc in absurd (omega arith)
+
+both-yes : {a b : Bool} → a ≡ true → b ≡ true → (a && b) ≡ true
+both-yes {a} {b} p q = ap₂ _&&_ p q
 
 module _ (blocks : ℕ) (memory : Kept) (right : Right memory) (whole : length (memory .fram) ≡ blockStart blocks) (small : length (memory .fram) ≤ 262144)
     (first last : ℕ) (range : Inside memory first last) where
@@ -261,51 +306,99 @@ eight-bytes first last = (
   ),
 )
 
--- Demand 3, second sentence. After the same calls, whatever they were, a CRC command (0x06) with any range inside FRAM, in either
--- mode and with any diagnostics, is done, changes nothing and answers the CRC of the bytes now stored there, worked out afresh.
-pub the-CRC-answered-is-fresh : (address : ℕ) (w : World) → setUpFit address (lengthsOf w) ≡ Fits → (calls : List Call) (diagnostics : List ℕ) (first last : ℕ)
-    → let s = calledOf (ownOf (setUpOf address w)) calls in
-    Inside (s .memory) first last
-    → commandOf longestData firstOfFram 0x06 diagnostics (held (s .unit .mode) (s .edac) (s .memory)) (bytes32 first ++ bytes32 last)
-    ≡ command.done ((bytes32 first ++ bytes32 last) ++ bytes16 (sumOf (stretch (first - firstOfFram) (last - first + 1) (s .memory .fram))))
-    (held (s .unit .mode) (s .edac) (s .memory))
-unfolding setUpFit
-the-CRC-answered-is-fresh address w e calls diagnostics first last range =
-    let s = calledOf (ownOf (setUpOf address w)) calls in
-    let good = calls-keep (length (w .fram)) calls (ownOf (setUpOf address w)) (set-up-is-right address w e) in
-    the-command-answers-it (length (w .sums)) (s .memory) (good .0) (good .1 ∙ a-served-set-up-fits address w e .sums-fit)
-    (subst (λ n. n ≤ 262144) (sym (good .1)) (no-longer (length (w .fram)) (all-passed address (framFits (length (w .fram))) (lengthsOf w) Fits e .fram-tested)))
-    first last range (s .unit .mode) (s .edac) diagnostics
+-- ---- after any calls on a unit that was set up
 
--- The same on the line. Let such a unit, with nothing open, be sent a CRC command for its own address, from any source and with any
--- poll, B and ACK bits, for a range inside FRAM, by calls that are served and lent anything else. It is done, and what it answers, with
--- the range as it was asked, is the CRC of the bytes now stored there.
-pub the-CRC-sent-is-fresh : (address : ℕ) (w : World) → setUpFit address (lengthsOf w) ≡ Fits → (calls : List Call) (lent : Call) (source control first last : ℕ)
-    → let s = calledOf (ownOf (setUpOf address w)) calls in
-    let v = lending s lent in
-    let field = bytes32 first ++ bytes32 last in
-    let sent = sealed (s .unit .address ∷ source ∷ control ∷ field) in
-    Inside (s .memory) first last
-    → stepFit (s .unit) (lengthsOf v) ≡ Fits
-    → Idle (s .unit .receiver)
-    → Bytes (s .unit .address ∷ source ∷ control ∷ [])
-    → codeOf control ≡ 0x06
-    → fedOf (s .unit) (packedOf sent) v
-    ≡ delivering (suc (length (bodyOf sent)))
-    (answered (withReceiver (s .unit) opened) (s .unit .address) source control field
-    (command.done (field ++ bytes16 (sumOf (stretch (first - firstOfFram) (last - first + 1) (s .memory .fram)))) (held (s .unit .mode) (s .edac) (s .memory)))
-    (withMessage v (sent ++ drop (length sent) (v .message))))
-the-CRC-sent-is-fresh address w e calls lent source control first last range fit idle head code =
-    let s = calledOf (ownOf (setUpOf address w)) calls in
-    let v = lending s lent in
-    let field = bytes32 first ++ bytes32 last in
-    let sent = sealed (s .unit .address ∷ source ∷ control ∷ field) in
-    let u = withReceiver (s .unit) opened in
-    let after = withMessage v (sent ++ drop (length sent) (v .message)) in
-    let came = commandOf longestData firstOfFram (codeOf control) (lent .diagnostics) (held (s .unit .mode) (s .edac) (s .memory)) field in
-    a-packed-command-is-carried-out (s .unit) v fit (s .unit .address) source control field (head .0, (head .1 .0, (head .1 .1 .0, eight-bytes first last))) (omega arith) idle
-    ∙ ap (delivering (suc (length (bodyOf sent))))
-    (ap (λ t. cond t (answered u (s .unit .address) source control field came after) (outcome u Elsewhere after)) (eq-eqb (s .unit .address) (s .unit .address) refl)
-    ∙ ap (λ o. answered u (s .unit .address) source control field o after)
-    (ap (λ (n : ℕ). commandOf longestData firstOfFram n (lent .diagnostics) (held (s .unit .mode) (s .edac) (s .memory)) field) code
-    ∙ the-CRC-answered-is-fresh address w e calls (lent .diagnostics) first last range))
+module _ (address : ℕ) (w : World) (e : setUpFit address (lengthsOf w) ≡ Fits) (calls : List Call) where
+  abbrev now : Own
+  now = calledOf (ownOf (setUpOf address w)) calls
+
+  goes : Goes address (length (w .fram)) now
+  goes = calls-keep address (length (w .fram)) calls (ownOf (setUpOf address w)) (set-up-goes address w e)
+
+  passed : Passed address (framFits (length (w .fram))) (lengthsOf w) Fits
+  unfolding setUpFit
+  passed = all-passed address (framFits (length (w .fram))) (lengthsOf w) Fits e
+
+  -- Demand 3, on the CRC answered. A CRC command (0x06) with any range inside FRAM, in either mode, with any EDAC memory and any
+  -- diagnostics, is done, changes nothing and answers the CRC of the bytes now stored there, worked out afresh.
+  pub the-CRC-answered-is-fresh : (edac diagnostics : List ℕ) (first last : ℕ) → Inside (now .memory) first last
+      → commandOf longestData firstOfFram 0x06 diagnostics (held (now .unit .mode) edac (now .memory)) (bytes32 first ++ bytes32 last)
+      ≡ command.done ((bytes32 first ++ bytes32 last) ++ bytes16 (sumOf (stretch (first - firstOfFram) (last - first + 1) (now .memory .fram))))
+      (held (now .unit .mode) edac (now .memory))
+  the-CRC-answered-is-fresh edac diagnostics first last range =
+      the-command-answers-it (length (w .sums)) (now .memory) (goes .good .0) (goes .good .1 ∙ a-served-set-up-fits address w e .sums-fit)
+      (subst (λ n. n ≤ 262144) (sym (goes .good .1)) (no-longer (length (w .fram)) (passed .fram-tested)))
+      first last range (now .unit .mode) edac diagnostics
+
+  -- Such a unit goes on being served: a call that lends its FRAM and sums, and the rest in the right lengths, is not refused.
+  pub a-unit-that-was-set-up-goes-on-being-served : (c : Lent) (message : List ℕ) → length (c .edac) ≡ edacSize → c .fram ≡ now .memory .fram
+      → c .sums ≡ now .memory .sums → length (c .diagnostics) ≡ channels → messageSize ≤ length message → replySize ≤ length (c .reply)
+      → Suits (now .unit .address) (now .unit .«fram_len») (length message) c
+  unfolding lengthsFit freshSums
+  a-unit-that-was-set-up-goes-on-being-served c message edac fram sums diagnostics long room =
+      let size : length (c .fram) ≡ length (w .fram) = ap length fram ∙ goes .good .1 in
+      let whole : length (w .fram) ≡ blockStart (length (w .sums)) = a-served-set-up-fits address w e .sums-fit in
+      let fresh : length (c .sums) ≡ length (now .memory .fram) / 256 =
+      ap length sums ∙ ap length (goes .good .0) ∙ fresh-length 0 (length (now .memory .fram) / 256) (now .memory .fram)
+      in
+      let blocks : blockStart (length (c .sums)) ≡ length (c .fram) = rw (fresh, goes .good .1, size) (omega arith) in
+      simp (
+        goes .same-address,
+        passed .address-allowed,
+        eq-eqb (length (c .edac)) edacSize edac,
+        ap₂ (λ (n m : ℕ). framFits n && eqb n m) size (goes .same-length) ∙ both-yes (passed .fram-tested) (eq-eqb (length (w .fram)) (length (w .fram)) refl),
+        eq-eqb (blockStart (length (c .sums))) (length (c .fram)) blocks,
+        eq-eqb (length (c .diagnostics)) channels diagnostics,
+        le-ltb (length message) messageSize long,
+        le-ltb (length (c .reply)) replySize room,
+      )
+
+  -- The same on the line. Let this unit, with nothing open, be sent a CRC command for its own address, from any source, for a range
+  -- inside FRAM, by calls that are served; each may lend another thing, but the message buffer is the same throughout and the last
+  -- call lends the unit's own FRAM and sums. All bytes are taken but the last, which does the command and answers, with the range as it
+  -- was asked, the CRC of the bytes now stored there.
+  module _ (sending : List Lent) (c : Lent) (message : List ℕ) (source control first last : ℕ) (range : Inside (now .memory) first last)
+      (suiting : AllSuit (now .unit .address) (now .unit .«fram_len») (length message) sending) (suits : Suits (now .unit .address) (now .unit .«fram_len») (length message) c)
+      (its-fram : c .fram ≡ now .memory .fram) (its-sums : c .sums ≡ now .memory .sums) (idle : Idle (now .unit .receiver))
+      (head : Bytes (now .unit .address ∷ source ∷ control ∷ [])) (code : codeOf control ≡ 0x06) where
+    abbrev asked : List ℕ
+    asked = bytes32 first ++ bytes32 last
+
+    abbrev answer : List ℕ
+    answer = asked ++ bytes16 (sumOf (stretch (first - firstOfFram) (last - first + 1) (now .memory .fram)))
+
+    abbrev sent : List ℕ
+    sent = sealed (now .unit .address ∷ source ∷ control ∷ asked)
+
+    abbrev after : World
+    after = lentTo (sent ++ drop (length sent) message) c
+
+    came : commandOf longestData firstOfFram (codeOf control) (c .diagnostics) (heldOf (withReceiver (now .unit) opened) after) asked
+        ≡ command.done answer (held (now .unit .mode) (c .edac) (now .memory))
+    came =
+        ap₂ (λ (f s : List ℕ). commandOf longestData firstOfFram (codeOf control) (c .diagnostics) (held (now .unit .mode) (c .edac) (kept f s)) asked) its-fram its-sums
+        ∙ ap (λ (n : ℕ). commandOf longestData firstOfFram n (c .diagnostics) (held (now .unit .mode) (c .edac) (now .memory)) asked) code
+        ∙ the-CRC-answered-is-fresh (c .edac) (c .diagnostics) first last range
+
+    pub the-CRC-on-the-line-is-fresh : bytesOf sending ≡ fend ∷ bodyOf sent → c .byte ≡ fend
+        → fedOf (now .unit) message sending c
+        ≡ delivering (length sending)
+        (answered (withReceiver (now .unit) opened) (now .unit .address) source control asked
+        (command.done answer (held (now .unit .mode) (c .edac) (now .memory))) after)
+    the-CRC-on-the-line-is-fresh is ends =
+        a-packed-command-is-carried-out (now .unit) message sending c (goes .low) suiting suits ends (now .unit .address) source control asked
+        (head .0, (head .1 .0, (head .1 .1 .0, eight-bytes first last))) (omega arith) idle is
+        ∙ ap (delivering (length sending))
+        (ap (λ t. cond t (answered (withReceiver (now .unit) opened) (now .unit .address) source control asked
+        (commandOf longestData firstOfFram (codeOf control) (c .diagnostics) (heldOf (withReceiver (now .unit) opened) after) asked) after)
+        (outcome (withReceiver (now .unit) opened) Elsewhere after)) (eq-eqb (now .unit .address) (now .unit .address) refl)
+        ∙ ap (λ o. answered (withReceiver (now .unit) opened) (now .unit .address) source control asked o after) came)
+
+    -- And where poll is set, the bytes sent are the packed reply with that CRC.
+    pub the-CRC-sent-is-fresh : bytesOf sending ≡ fend ∷ bodyOf sent → c .byte ≡ fend → polls control ≡ true
+        → take (sentOf (fedOf (now .unit) message sending c .last .answer)) (fedOf (now .unit) message sending c .last .world .reply)
+        ≡ packedOf (replyMessage 1 (now .unit .address) source control answer)
+    the-CRC-sent-is-fresh is ends polled =
+        ap (λ (f : Fed). take (sentOf (f .last .answer)) (f .last .world .reply)) (the-CRC-on-the-line-is-fresh is ends)
+        ∙ what-is-sent-is-the-packed-answer (withReceiver (now .unit) opened) (now .unit .address) source control asked after polled
+        (command.done answer (held (now .unit .mode) (c .edac) (now .memory))) (λ wrong. done-is-not-unfitted wrong)

@@ -21,6 +21,9 @@ use Rattle.line.specs.declared.receiver.Heard.{Heard}
 use Rattle.line.specs.declared.receiver.Heard.the-variants as heard
 use Rattle.line.specs.Receiver.{fresh, opened, closedOf, Outcome as LineOutcome, receiveOf, Feed, feedOf}
 use Rattle.line.specs.Delivery.{deliveredOf}
+use Rattle.line.specs.Unpacking as unpacking
+use Rattle.line.specs.Unpacking.{unpackOf, keptOf, NoFend}
+use Rattle.line.proofs.Runs.{a-closed-run-is-heard-counted-and-stored-as-it-unpacks}
 use Rattle.line.proofs.Bounds.{the-count-never-passes-one-above-the-largest, the-buffer-keeps-its-length}
 use Rattle.line.proofs.RoundTrip.{a-body-after-any-FEND-is-received-as-its-message, what-is-packed-is-received-back}
 use Rattle.field.specs.Fields.{word16At, bytes16}
@@ -37,43 +40,37 @@ use Rattle.unit.specs.Answers.{sentOf}
 use Rattle.unit.specs.Replies.{codeOf, polls, replyControl, sealed, replyMessage}
 use Rattle.unit.specs.World.{World, lengthsOf, Outcome, outcome, withReceiver, withMessage, heldOf}
 use Rattle.unit.specs.Fitting.{framAsSetUp, countFit, lengthsFit, messageSize, stepFit, largestCount}
-use Rattle.unit.specs.Runs.{longestData, firstOfFram, saying, answered, commandedOf, soundOf, runOf}
+use Rattle.unit.specs.Runs.{longestData, firstOfFram, Said, saying, answered, commandedOf, soundOf, runOf}
 use Rattle.unit.specs.Steps.{unless, heardOf, receivedOf, stepOf}
 use Rattle.unit.proofs.Serving.{all-passed, a-served-step-fits}
-use Rattle.demands.proofs.Replies.{Roomy, every-reply-has-room}
-use Rattle.demands.specs.Calls.{Fed, answering, fedOf, delivering, Idle, orderedOf, answerMessage, Bytes}
+use Rattle.demands.proofs.Replies.{part, Roomy, every-reply-has-room}
+use Rattle.demands.proofs.Cases.{either-way}
+use Rattle.demands.specs.Calls.{Lent, lentTo, Fed, answering, fedOf, bytesOf, delivering, Suits, AllSuit, Idle, orderedOf, answerMessage, Bytes}
 
 -- ---- byte by byte
 
--- a call that is served leaves a unit and buffers that the next call serves too
-counts : (count : ℕ) → countFit count ≡ Fits → count ≤ 1034
-counts count e = either (leb count largestCount) refl
-  where
-    either : (t : Bool) → leb count largestCount ≡ t → count ≤ 1034
-    either true h = leb-true count largestCount h
-    either false h =
-        let no : Unfit BadCount ≡ Fits = sym (ap (λ t. cond t Fits (Unfit BadCount)) h) ∙ e in
-        let z : _≡_ {A = ℕ} 0 1 = cc in absurd (omega arith)
+counts : (count : ℕ) → count ≤ 1034 → countFit count ≡ Fits
+counts count low = ap (λ t. cond t Fits (Unfit BadCount)) (le-leb count 1034 low)
 
-module _ (u : Unit) (byte : ℕ) (w : World) (fit : stepFit u (lengthsOf w) ≡ Fits) where
+module _ (u : Unit) (message : List ℕ) (c : Lent) (low : u .receiver .count ≤ 1034) (suits : Suits (u .address) (u .«fram_len») (length message) c) where
   abbrev got : LineOutcome
-  got = receiveOf messageSize (u .receiver) byte (w .message)
+  got = receiveOf messageSize (u .receiver) (c .byte) message
 
-  served : stepOf u byte w ≡ heardOf (withReceiver u (got .receiver)) (got .heard) (withMessage w (got .message))
+  fit : stepFit u (lengthsOf (lentTo message c)) ≡ Fits
+  unfolding stepFit
+  fit =
+      ap (λ next. lengthsFit (u .address) (framAsSetUp (length (c .fram)) (u .«fram_len»)) (lengthsOf (lentTo message c)) next) (counts (u .receiver .count) low)
+      ∙ suits
+
+  served : stepOf u (c .byte) (lentTo message c) ≡ heardOf (withReceiver u (got .receiver)) (got .heard) (lentTo (got .message) c)
   unfolding stepOf receivedOf
   served = simp fit
 
-  still-fit : stepFit (withReceiver u (got .receiver)) (lengthsOf (withMessage w (got .message))) ≡ Fits
-  unfolding stepFit
-  still-fit =
-      let before : countFit (u .receiver .count) ≡ Fits = all-passed (u .address) (framAsSetUp (length (w .fram)) (u .«fram_len»)) (lengthsOf w) (countFit (u .receiver .count)) fit .next-tested in
-      let low : got .receiver .count ≤ 1034 = the-count-never-passes-one-above-the-largest messageSize (byte ∷ []) (u .receiver) (w .message) (counts (u .receiver .count) before) in
-      let after : countFit (got .receiver .count) ≡ countFit (u .receiver .count) = ap (λ t. cond t Fits (Unfit BadCount)) (le-leb (got .receiver .count) 1034 low) ∙ sym before in
-      let long : length (got .message) ≡ length (w .message) = the-buffer-keeps-its-length messageSize (byte ∷ []) (u .receiver) (w .message) in
-      ap₂ (λ n c. lengthsFit (u .address) (framAsSetUp (length (w .fram)) (u .«fram_len»))
-      (record { edac = length (w .edac); fram = length (w .fram); sums = length (w .sums); diagnostics = length (w .diagnostics); message = n; reply = length (w .reply) }) c)
-      long after
-      ∙ fit
+  still-low : got .receiver .count ≤ 1034
+  still-low = the-count-never-passes-one-above-the-largest messageSize (c .byte ∷ []) (u .receiver) message low
+
+  still-long : length (got .message) ≡ length message
+  still-long = the-buffer-keeps-its-length messageSize (c .byte ∷ []) (u .receiver) message
 
 first-or : Heard → List Heard → Heard
 first-or h [] = h
@@ -83,35 +80,100 @@ but-first : List Heard → List Heard
 but-first [] = []
 but-first (_ ∷ l) = l
 
--- bytes of which all but the last are only taken leave what the last one comes to
-all-but-the-last : (bytes : List ℕ) (n : ℕ) (h : Heard) (u : Unit) (w : World) → stepFit u (lengthsOf w) ≡ Fits
-    → feedOf messageSize (u .receiver) bytes (w .message) .heard ≡ replicate n heard.Taken ++ (h ∷ [])
-    → fedOf u bytes w
-    ≡ delivering n (heardOf (withReceiver u (feedOf messageSize (u .receiver) bytes (w .message) .receiver)) h (withMessage w (feedOf messageSize (u .receiver) bytes (w .message) .message)))
+-- calls of which all but the last are only taken leave what the last one comes to
+all-but-the-last : (calls : List Lent) (c : Lent) (h : Heard) (u : Unit) (message : List ℕ) → u .receiver .count ≤ 1034
+    → AllSuit (u .address) (u .«fram_len») (length message) calls → Suits (u .address) (u .«fram_len») (length message) c
+    → feedOf messageSize (u .receiver) (bytesOf calls ++ (c .byte ∷ [])) message .heard ≡ replicate (length calls) heard.Taken ++ (h ∷ [])
+    → fedOf u message calls c
+    ≡ delivering (length calls)
+    (heardOf (withReceiver u (feedOf messageSize (u .receiver) (bytesOf calls ++ (c .byte ∷ [])) message .receiver)) h
+    (lentTo (feedOf messageSize (u .receiver) (bytesOf calls ++ (c .byte ∷ [])) message .message) c))
 unfolding heardOf first-or but-first
-all-but-the-last [] zero h u w fit e = let z : _≡_ {A = ℕ} 0 1 = ap length e in absurd (omega arith)
-all-but-the-last [] (suc n) h u w fit e = let z : suc (length (replicate n heard.Taken ++ (h ∷ []))) ≡ 0 = sym (ap length e) in absurd (omega arith)
-all-but-the-last (byte ∷ []) zero h u w fit e =
-    let same : got u byte w fit .heard ≡ h = ap (first-or h) e in
-    ap (λ o. answering (o .answer) (fedOf (o .unit) [] (o .world))) (served u byte w fit ∙ ap (λ x. heardOf (withReceiver u (got u byte w fit .receiver)) x (withMessage w (got u byte w fit .message))) same)
-all-but-the-last (byte ∷ next ∷ bytes) zero h u w fit e = let z : _≡_ {A = ℕ} 0 1 = sym (ap (λ l. length (take 1 (but-first l))) e) in absurd (omega arith)
-all-but-the-last (byte ∷ bytes) (suc n) h u w fit e =
-    let same : got u byte w fit .heard ≡ heard.Taken = ap (first-or h) e in
-    ap (λ o. answering (o .answer) (fedOf (o .unit) bytes (o .world))) (served u byte w fit ∙ ap (λ x. heardOf (withReceiver u (got u byte w fit .receiver)) x (withMessage w (got u byte w fit .message))) same)
+all-but-the-last [] c h u message low all last e =
+    let same : got u message c low last .heard ≡ h = ap (first-or h) e in
+    ap (delivering 0)
+    (served u message c low last ∙ ap (λ x. heardOf (withReceiver u (got u message c low last .receiver)) x (lentTo (got u message c low last .message) c)) same)
+all-but-the-last (d ∷ calls) c h u message low all last e =
+    let next = got u message d low (all .0) in
+    let same : next .heard ≡ heard.Taken = ap (first-or h) e in
+    let long : length (next .message) ≡ length message = still-long u message d low (all .0) in
+    ap (λ o. answering (o .answer) (fedOf (o .unit) (o .world .message) calls c))
+    (served u message d low (all .0) ∙ ap (λ x. heardOf (withReceiver u (next .receiver)) x (lentTo (next .message) d)) same)
     ∙ ap (answering Taken)
-    (all-but-the-last bytes n h (withReceiver u (got u byte w fit .receiver)) (withMessage w (got u byte w fit .message)) (still-fit u byte w fit) (ap but-first e))
+    (all-but-the-last calls c h (withReceiver u (next .receiver)) (next .message) (still-low u message d low (all .0))
+    (subst (λ n. AllSuit (u .address) (u .«fram_len») n calls) (sym long) (all .1)) (subst (λ n. Suits (u .address) (u .«fram_len») n c) (sym long) last) (ap but-first e))
 
--- ---- a packed message
+-- what is lent suits, and so the message buffer is long enough
+long-enough : (u : Unit) (message : List ℕ) (c : Lent) → u .receiver .count ≤ 1034 → Suits (u .address) (u .«fram_len») (length message) c → messageSize ≤ length message
+long-enough u message c low suits = a-served-step-fits u (lentTo message c) (fit u message c low suits) .message-fits
 
-module _ (u : Unit) (w : World) (fit : stepFit (withReceiver u opened) (lengthsOf w) ≡ Fits) (m : List ℕ) (some : 0 < length m) (within : length m ≤ messageSize) where
-  body-judged : fedOf (withReceiver u opened) (bodyOf m ++ (fend ∷ [])) w
-      ≡ delivering (length (bodyOf m)) (runOf (withReceiver u opened) (length m) (withMessage w (m ++ drop (length m) (w .message))))
+as-many : (calls : List Lent) → length (bytesOf calls) ≡ length calls
+as-many [] = refl
+as-many (d ∷ calls) = ap suc (as-many calls)
+
+-- the calls of one run and its FEND, after a FEND
+module _ (u : Unit) (message : List ℕ) (calls : List Lent) (c : Lent) (run : List ℕ) (is : bytesOf calls ≡ run) (ends : c .byte ≡ fend)
+    (all : AllSuit (u .address) (u .«fram_len») (length message) calls) (last : Suits (u .address) (u .«fram_len») (length message) c) where
+  closed : (f : Feed) → feedOf messageSize opened (run ++ (fend ∷ [])) message ≡ f → (h : Heard) → f .heard ≡ replicate (length run) heard.Taken ++ (h ∷ [])
+      → fedOf (withReceiver u opened) message calls c ≡ delivering (length calls) (heardOf (withReceiver u (f .receiver)) h (lentTo (f .message) c))
+  closed f e h hears =
+      let same : bytesOf calls ++ (c .byte ∷ []) ≡ run ++ (fend ∷ []) = ap₂ (λ (l : List ℕ) (n : ℕ). l ++ (n ∷ [])) is ends in
+      let whole : feedOf messageSize opened (bytesOf calls ++ (c .byte ∷ [])) message ≡ f = ap (λ l. feedOf messageSize opened l message) same ∙ e in
+      let many : length run ≡ length calls = sym (ap length is) ∙ as-many calls in
+      all-but-the-last calls c h (withReceiver u opened) message (omega arith) all last
+      (ap (λ (g : Feed). g .heard) whole ∙ hears ∙ ap (λ (n : ℕ). replicate n heard.Taken ++ (h ∷ [])) many)
+      ∙ ap (λ (g : Feed). delivering (length calls) (heardOf (withReceiver u (g .receiver)) h (lentTo (g .message) c))) whole
+
+  -- Demand 2, for any bytes at all between two FENDs. All are taken, and the closing FEND judges the run as it unpacks: empty, framing,
+  -- or so many bytes of message as its count says.
+  pub any-run-is-judged-as-it-unpacks : NoFend run
+      → fedOf (withReceiver u opened) message calls c
+      ≡ delivering (length calls)
+      (heardOf (withReceiver u opened) (unpacking.heardOf messageSize run) (lentTo (keptOf messageSize run ++ drop (length (keptOf messageSize run)) message) c))
+  any-run-is-judged-as-it-unpacks none =
+      let long = long-enough (withReceiver u opened) message c (omega arith) last in
+      let short : length (keptOf messageSize run) ≤ messageSize = part messageSize (unpackOf run .bytes) in
+      closed _ (a-closed-run-is-heard-counted-and-stored-as-it-unpacks messageSize run message none (omega arith)) (unpacking.heardOf messageSize run) refl
+
+  message-judged : (m : List ℕ) → run ≡ bodyOf m → 0 < length m → length m ≤ messageSize
+      → fedOf (withReceiver u opened) message calls c ≡ delivering (length calls) (runOf (withReceiver u opened) (length m) (lentTo (m ++ drop (length m) message) c))
   unfolding heardOf
-  body-judged =
-      let long : messageSize ≤ length (w .message) = a-served-step-fits (withReceiver u opened) w fit .message-fits in
-      let feed = a-body-after-any-FEND-is-received-as-its-message messageSize m (w .message) some within (omega arith) in
-      all-but-the-last (bodyOf m ++ (fend ∷ [])) (length (bodyOf m)) (heard.Message (length m)) (withReceiver u opened) w fit (ap (λ (f : Feed). f .heard) feed)
-      ∙ ap (λ (f : Feed). delivering (length (bodyOf m)) (heardOf (withReceiver u (f .receiver)) (heard.Message (length m)) (withMessage w (f .message)))) feed
+  message-judged m body some within =
+      let long = long-enough (withReceiver u opened) message c (omega arith) last in
+      closed _ (ap (λ r. feedOf messageSize opened (r ++ (fend ∷ [])) message) body ∙ a-body-after-any-FEND-is-received-as-its-message messageSize m message some within (omega arith))
+      (heard.Message (length m)) (ap (λ (r : List ℕ). replicate (length r) heard.Taken ++ (heard.Message (length m) ∷ [])) (sym body))
+
+-- what is heard leaves the receiver as it is
+pub heard-keeps-the-receiver : (u : Unit) (h : Heard) (w : World) → heardOf u h w .unit .receiver ≡ u .receiver
+unfolding heardOf runOf commandedOf answered saying
+heard-keeps-the-receiver u heard.Taken w = refl
+heard-keeps-the-receiver u heard.Empty w = refl
+heard-keeps-the-receiver u heard.Framing w = refl
+heard-keeps-the-receiver u (heard.Message count) w =
+    either-way (λ (o : Outcome). o .unit .receiver ≡ u .receiver) (ltb count 5) _ _ (λ _. refl)
+    (λ _. either-way (λ (o : Outcome). o .unit .receiver ≡ u .receiver) (ltb messageSize count) _ _ (λ _. refl)
+    (λ _. either-way (λ (o : Outcome). o .unit .receiver ≡ u .receiver) (soundOf count (w .message)) _ _
+    (λ _. either-way (λ (o : Outcome). o .unit .receiver ≡ u .receiver) (eqb (getD (w .message) 0 0) (u .address)) _ _
+    (λ _. came (getD (w .message) 0 0) (getD (w .message) 1 0) (getD (w .message) 2 0) (stretch 3 (count - 5) (w .message))
+    (commandOf longestData firstOfFram (codeOf (getD (w .message) 2 0)) (w .diagnostics) (heldOf u w) (stretch 3 (count - 5) (w .message))))
+    (λ _. refl))
+    (λ _. refl)))
+  where
+    came : (destination source control : ℕ) (field : List ℕ) (o : command.Outcome Held) → answered u destination source control field o w .unit .receiver ≡ u .receiver
+    came destination source control field (command.done reply after) =
+        either-way (λ (s : Said). s .unit .receiver ≡ u .receiver) (polls control) _ _ (λ _. refl) (λ _. refl)
+    came destination source control field command.refused =
+        either-way (λ (s : Said). s .unit .receiver ≡ u .receiver) (polls control) _ _ (λ _. refl) (λ _. refl)
+    came destination source control field command.unfitted = refl
+
+-- A FEND that is served opens a run, whatever it closed.
+pub a-served-FEND-opens-a-run : (u : Unit) (message : List ℕ) (c : Lent) → u .receiver .count ≤ 1034 → Suits (u .address) (u .«fram_len») (length message) c → c .byte ≡ fend
+    → stepOf u (c .byte) (lentTo message c) .unit .receiver ≡ opened
+unfolding receiveOf
+a-served-FEND-opens-a-run u message c low suits ends =
+    ap (λ (o : Outcome). o .unit .receiver) (served u message c low suits)
+    ∙ heard-keeps-the-receiver (withReceiver u (got u message c low suits .receiver)) (got u message c low suits .heard) (lentTo (got u message c low suits .message) c)
+    ∙ ap (λ (n : ℕ). receiveOf messageSize (u .receiver) n message .receiver) ends
 
 -- ---- what a sealed message comes to
 
@@ -194,41 +256,51 @@ module _ (u : Unit) (w : World) (destination source control : ℕ) (field : List
 
 -- ---- demand 2
 
-module _ (u : Unit) (w : World) (fit : stepFit u (lengthsOf w) ≡ Fits) (destination source control : ℕ) (field : List ℕ)
+module _ (u : Unit) (message : List ℕ) (calls : List Lent) (c : Lent) (low : u .receiver .count ≤ 1034) (all : AllSuit (u .address) (u .«fram_len») (length message) calls)
+    (last : Suits (u .address) (u .«fram_len») (length message) c) (ends : c .byte ≡ fend) (destination source control : ℕ) (field : List ℕ)
     (bytes : Bytes (destination ∷ source ∷ control ∷ field)) (short : length field ≤ longestData) where
   abbrev sent : List ℕ
   sent = sealed (destination ∷ source ∷ control ∷ field)
 
   abbrev carriedOut : Outcome
-  carriedOut = orderedOf (withReceiver u opened) destination source control field (withMessage w (sent ++ drop (length sent) (w .message)))
+  carriedOut = orderedOf (withReceiver u opened) destination source control field (lentTo (sent ++ drop (length sent) message) c)
 
-  body-carried-out : stepFit (withReceiver u opened) (lengthsOf w) ≡ Fits
-      → fedOf (withReceiver u opened) (bodyOf sent ++ (fend ∷ [])) w ≡ delivering (length (bodyOf sent)) carriedOut
-  body-carried-out serves =
-      let long = sealed-length u w destination source control field bytes short in
-      body-judged u w serves sent (omega arith) (omega arith)
-      ∙ ap (delivering (length (bodyOf sent))) (judged (withReceiver u opened) w destination source control field bytes short)
+  body-carried-out : (some : List Lent) → AllSuit (u .address) (u .«fram_len») (length message) some → bytesOf some ≡ bodyOf sent
+      → fedOf (withReceiver u opened) message some c ≡ delivering (length some) carriedOut
+  body-carried-out some suit is =
+      let long = sealed-length u (lentTo message c) destination source control field bytes short in
+      message-judged u message some c (bodyOf sent) is ends suit last sent refl (omega arith) (omega arith)
+      ∙ ap (delivering (length some)) (judged (withReceiver u opened) (lentTo message c) destination source control field bytes short)
 
-  -- Demand 2. A command with any data of legal length, sealed with its CRC and packed, comes after any FEND: every byte but the last
-  -- FEND is taken, and that one carries the command out and answers as its definition says.
-  pub after-any-FEND-a-packed-command-is-carried-out : u .receiver ≡ opened
-      → fedOf u (bodyOf sent ++ (fend ∷ [])) w ≡ delivering (length (bodyOf sent)) carriedOut
-  after-any-FEND-a-packed-command-is-carried-out e =
+  -- Demand 2. A command with any data of legal length, sealed with its CRC and packed, comes after any FEND, by calls that lend what they
+  -- like in the right lengths, into a message buffer that nobody else alters: every byte but the last FEND is taken, and that one
+  -- carries the command out on what it is lent and answers, as its definition says.
+  pub after-any-FEND-a-packed-command-is-carried-out : u .receiver ≡ opened → bytesOf calls ≡ bodyOf sent
+      → fedOf u message calls c ≡ delivering (length calls) carriedOut
+  after-any-FEND-a-packed-command-is-carried-out e is =
       let same : withReceiver u opened ≡ u = ap (withReceiver u) (sym e) in
-      subst (λ v. fedOf v (bodyOf sent ++ (fend ∷ [])) w ≡ delivering (length (bodyOf sent)) carriedOut) same
-      (body-carried-out (ap (λ v. stepFit v (lengthsOf w)) same ∙ fit))
+      subst (λ v. fedOf v message calls c ≡ delivering (length calls) carriedOut) same (body-carried-out calls all is)
 
   -- The same with both its FENDs, to a unit that is fresh or has nothing open.
-  pub a-packed-command-is-carried-out : Idle (u .receiver) → fedOf u (packedOf sent) w ≡ delivering (suc (length (bodyOf sent))) carriedOut
+  pub a-packed-command-is-carried-out : Idle (u .receiver) → bytesOf calls ≡ fend ∷ bodyOf sent → fedOf u message calls c ≡ delivering (length calls) carriedOut
   unfolding heardOf receiveOf
-  a-packed-command-is-carried-out idle =
-      ap (λ o. answering (o .answer) (fedOf (o .unit) (bodyOf sent ++ (fend ∷ [])) (o .world)))
-      (served u fend w fit ∙ quiet idle)
-      ∙ ap (answering Taken) (body-carried-out (still-fit u fend w fit))
+  a-packed-command-is-carried-out idle = by calls all
     where
-      quiet : Idle (u .receiver) → heardOf (withReceiver u opened) (closedOf (u .receiver .place) (u .receiver .count)) w ≡ outcome (withReceiver u opened) Taken w
-      quiet (inl e) = ap (λ h. heardOf (withReceiver u opened) h w) e
-      quiet (inr e) = ap (λ h. heardOf (withReceiver u opened) h w) e
+      quiet : (w : World) → Idle (u .receiver) → heardOf (withReceiver u opened) (closedOf (u .receiver .place) (u .receiver .count)) w ≡ outcome (withReceiver u opened) Taken w
+      quiet w (inl e) = ap (λ h. heardOf (withReceiver u opened) h w) e
+      quiet w (inr e) = ap (λ h. heardOf (withReceiver u opened) h w) e
+
+      opening : (d : Lent) → Suits (u .address) (u .«fram_len») (length message) d → d .byte ≡ fend → stepOf u (d .byte) (lentTo message d) ≡ outcome (withReceiver u opened) Taken (lentTo message d)
+      opening d suits e =
+          served u message d low suits
+          ∙ ap (λ (o : LineOutcome). heardOf (withReceiver u (o .receiver)) (o .heard) (lentTo (o .message) d)) (ap (λ (n : ℕ). receiveOf messageSize (u .receiver) n message) e)
+          ∙ quiet (lentTo message d) idle
+
+      by : (some : List Lent) → AllSuit (u .address) (u .«fram_len») (length message) some → bytesOf some ≡ fend ∷ bodyOf sent → fedOf u message some c ≡ delivering (length some) carriedOut
+      by [] suit is = let z : suc (length (bodyOf sent)) ≡ 0 = sym (ap length is) in absurd (omega arith)
+      by (d ∷ some) suit is =
+          ap (λ o. answering (o .answer) (fedOf (o .unit) (o .world .message) some c)) (opening d (suit .0) (ap (λ l. getD l 0 0) is))
+          ∙ ap (answering Taken) (body-carried-out some (suit .1) (ap (drop 1) is))
 
 -- Where poll is set and the command did not fault, what is sent is the packed message of the answer.
 module _ (u : Unit) (destination source control : ℕ) (field : List ℕ) (w : World) (polled : polls control ≡ true) where

@@ -45,7 +45,7 @@ roomy-inside room f unfitted h = h
 
 -- ---- the lengths of what is shown
 
-part : (n : ℕ) (l : List ℕ) → length (take n l) ≤ n
+pub part : (n : ℕ) (l : List ℕ) → length (take n l) ≤ n
 part n l = let e = length-take n l in omega (arith, e)
 
 file-shown : (edac : List ℕ) (n : ℕ) → length (fileShown edac n) ≤ shownSize n

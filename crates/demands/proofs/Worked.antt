@@ -23,13 +23,13 @@ use Rattle.unit.specs.Steps.{setUpOf, heardOf, receivedOf, stepOf}
 use Rattle.demands.specs.Calls.{Fed, fedOf}
 use Rattle.demands.specs.Worked.{WorkedExamples, heard}
 
-ping : let f = heard (0xC0 ∷ 0x41 ∷ 0x11 ∷ 0x80 ∷ 0xD8 ∷ 0x6D ∷ 0xC0 ∷ []) in
-    (f .answers ≡ replicate 6 Taken ++ (Acked 24 ∷ [])) × (take 4 (f .world .reply) ≡ 0xC0 ∷ 0x11 ∷ 0x41 ∷ 0xA0 ∷ [])
+ping : let f = heard (0xC0 ∷ 0x41 ∷ 0x11 ∷ 0x80 ∷ 0xD8 ∷ 0x6D ∷ []) 0xC0 in
+    (f .answers ≡ replicate 6 Taken) × (f .last .answer ≡ Acked 24) × (take 4 (f .last .world .reply) ≡ 0xC0 ∷ 0x11 ∷ 0x41 ∷ 0xA0 ∷ [])
 unfolding stepOf setUpOf setUpFit stepFit lengthsFit freshSums freshFrom receivedOf receiveOf insideOf closedOf storedOf countedOf heardOf runOf commandedOf answered saying sealed replyMessage commandOf framCommandOf escapedOf begun sumOf sumFrom byteStep bitSteps bitStep
-ping = (refl, refl)
+ping = (refl, refl, refl)
 
-runs : (heard (0xC0 ∷ 0xC0 ∷ []) .answers ≡ Taken ∷ Taken ∷ [])
-    × (heard (0xC0 ∷ 0x01 ∷ 0x02 ∷ 0x03 ∷ 0x04 ∷ 0xC0 ∷ []) .answers ≡ replicate 5 Taken ++ (Runt ∷ []))
+runs : (heard (0xC0 ∷ []) 0xC0 .last .answer ≡ Taken)
+    × (heard (0xC0 ∷ 0x01 ∷ 0x02 ∷ 0x03 ∷ 0x04 ∷ []) 0xC0 .last .answer ≡ Runt)
 unfolding stepOf setUpOf setUpFit stepFit lengthsFit freshSums freshFrom receivedOf receiveOf insideOf closedOf storedOf countedOf heardOf runOf countedUp
 runs = (refl, refl)
 

@@ -1,7 +1,7 @@
 -- 01, "Small examples": P1 to P12, under one statement. Assumes nothing.
 use mathlib.Core.Path.{_≡_}
 use mathlib.Core.Bool.{true, false}
-use mathlib.Core.List.{List, [], _∷_, _++_}
+use mathlib.Core.List.{List, [], _∷_, map}
 use Prim.Native.Nat.{ℕ}
 use lib.ListN.{take, replicate, set}
 use Rattle.crc.specs.Sum.{sumOf}
@@ -16,7 +16,7 @@ use Rattle.unit.specs.declared.Answer.the-variants.{Taken, Acked, Runt}
 use Rattle.unit.specs.World.{World, world}
 use Rattle.unit.specs.Runs.{longestData}
 use Rattle.unit.specs.Steps.{setUpOf}
-use Rattle.demands.specs.Calls.{Fed, fedOf}
+use Rattle.demands.specs.Calls.{Lent, Fed, fedOf}
 
 abbrev pub zeros : List ℕ
 zeros = replicate 1536 0
@@ -24,9 +24,12 @@ zeros = replicate 1536 0
 abbrev pub blank : World
 blank = world zeros (replicate 256 0) (replicate 1 0) (replicate 31 0) (replicate 1033 0) (replicate 2068 0)
 
--- Bytes to a fresh unit 0x41.
-abbrev pub heard : List ℕ → Fed
-heard bytes = fedOf (setUpOf 0x41 blank .unit) bytes (setUpOf 0x41 blank .world)
+-- Bytes to a fresh unit 0x41, the last of them apart.
+abbrev pub lent : ℕ → Lent
+lent byte = record { byte = byte; edac = zeros; fram = replicate 256 0; sums = setUpOf 0x41 blank .world .sums; diagnostics = replicate 31 0; reply = replicate 2068 0 }
+
+abbrev pub heard : List ℕ → ℕ → Fed
+heard bytes byte = fedOf (setUpOf 0x41 blank .unit) (replicate 1033 0) (map lent bytes) (lent byte)
 
 pub record WorkedExamples : Type 0 where
   pub P1 : sumOf [] ≡ 0xFFFF
@@ -34,14 +37,14 @@ pub record WorkedExamples : Type 0 where
   pub P3 : sumOf (0xFF ∷ 0xFF ∷ []) ≡ 0x0000
   pub P4 : sumOf (0x00 ∷ []) ≡ 0x0F87
   pub P5 : sumOf (0x41 ∷ 0x11 ∷ 0x80 ∷ []) ≡ 0x6DD8
-  pub P6 : let f = heard (0xC0 ∷ 0x41 ∷ 0x11 ∷ 0x80 ∷ 0xD8 ∷ 0x6D ∷ 0xC0 ∷ []) in
-      (f .answers ≡ replicate 6 Taken ++ (Acked 24 ∷ [])) × (take 4 (f .world .reply) ≡ 0xC0 ∷ 0x11 ∷ 0x41 ∷ 0xA0 ∷ [])
+  pub P6 : let f = heard (0xC0 ∷ 0x41 ∷ 0x11 ∷ 0x80 ∷ 0xD8 ∷ 0x6D ∷ []) 0xC0 in
+      (f .answers ≡ replicate 6 Taken) × (f .last .answer ≡ Acked 24) × (take 4 (f .last .world .reply) ≡ 0xC0 ∷ 0x11 ∷ 0x41 ∷ 0xA0 ∷ [])
   pub P7 : (unpackOf (0xDB ∷ 0xDC ∷ []) ≡ record { bytes = 0xC0 ∷ []; fault = false })
       × (unpackOf (0xDB ∷ 0xDD ∷ []) ≡ record { bytes = 0xDB ∷ []; fault = false })
       × (unpackOf (0xDB ∷ 0x00 ∷ []) ≡ record { bytes = []; fault = true })
   pub P8 : joinOf (record { sum = 0x00FF; len = 1 }) (record { sum = 0x00FF; len = 1 }) ≡ done (record { sum = 0x0000; len = 2 })
-  pub P9 : (heard (0xC0 ∷ 0xC0 ∷ []) .answers ≡ Taken ∷ Taken ∷ [])
-      × (heard (0xC0 ∷ 0x01 ∷ 0x02 ∷ 0x03 ∷ 0x04 ∷ 0xC0 ∷ []) .answers ≡ replicate 5 Taken ++ (Runt ∷ []))
+  pub P9 : (heard (0xC0 ∷ []) 0xC0 .last .answer ≡ Taken)
+      × (heard (0xC0 ∷ 0x01 ∷ 0x02 ∷ 0x03 ∷ 0x04 ∷ []) 0xC0 .last .answer ≡ Runt)
   pub P10 : readFileOf longestData (set (0x00 ∷ 0x00 ∷ 0x80 ∷ 0x3F ∷ replicate 1532 0) 0x5C3 0x03) (0x00 ∷ [])
       ≡ command.done (0x00 ∷ 0x03 ∷ 0x00 ∷ 0x00 ∷ 0x80 ∷ 0x3F ∷ []) tt
   pub P11 : writeFileOf longestData zeros (0x28 ∷ 0x01 ∷ 0x02 ∷ 0x03 ∷ 0x04 ∷ 0x28 ∷ 0x05 ∷ 0x06 ∷ 0x07 ∷ 0x08 ∷ [])
