@@ -19,24 +19,25 @@ use Rattle.memory.specs.Fram.{freshSums}
 use Rattle.memory.proofs.Stretches.{the-written-part-is-handed-back}
 use Rattle.command.specs.Outcome as command
 use Rattle.command.specs.Command.{Held, commandOf}
+use Rattle.command.specs.declared.Mode.the-variants.{Bootloader}
 use Rattle.unit.specs.declared.Unit.{Unit}
 use Rattle.unit.specs.declared.Answer.{Answer}
 use Rattle.unit.specs.declared.Answer.the-variants.{Taken, Acked, Done, Nacked, Refused, Framing, Runt, Oversize, BadCrc, Elsewhere, Unfitted, BadAddress, BadEdac, BadFram, BadSums, BadDiagnostics, BadBuffers, BadCount}
 use Rattle.unit.specs.declared.Fit.{Fit}
 use Rattle.unit.specs.declared.Fit.the-variants.{Fits, Unfit}
 use Rattle.unit.specs.Answers.{numberOf, sentOf}
-use Rattle.unit.specs.World.{World, lengthsOf, Outcome, outcome, withReceiver, withMode, withMessage, withDiagnostics, withReply, heldOf, withHeld}
-use Rattle.unit.specs.Fitting.{messageSize, stepFit}
+use Rattle.unit.specs.World.{World, lengthsOf, Outcome, outcome, withSums, withReceiver, withMode, withMessage, withDiagnostics, withReply, heldOf, withHeld}
+use Rattle.unit.specs.Fitting.{messageSize, stepFit, lengthsFit, setUpFit}
 use Rattle.unit.specs.Replies.{polls, codeOf, replyMessage}
 use Rattle.unit.specs.Runs.{longestData, firstOfFram, firstCount, dropped, said, saying, inWorld, answered, commandedOf, soundOf, runOf}
-use Rattle.unit.specs.Steps.{unless, heardOf, receivedOf, stepOf}
+use Rattle.unit.specs.Steps.{unless, heardOf, receivedOf, stepOf, nobody, setUpOf}
 use Rattle.demands.specs.Leaving.{countsAfter, Leaves}
 use Rattle.demands.proofs.Cases.{either-way, a-refused-step-has-its-number}
 
 -- what a call leaves that is not refused
 record Serves (u : Unit) (w : World) (o : Outcome) : Type 0 where
   low : numberOf (o .answer) < 20
-  memory : 3 ≤ numberOf (o .answer)
+  memory : (numberOf (o .answer) ≡ 1 → ⊥) → (numberOf (o .answer) ≡ 2 → ⊥)
       → (o .world .edac ≡ w .edac) × (o .world .fram ≡ w .fram) × (o .world .sums ≡ w .sums) × (o .unit .mode ≡ u .mode)
   counts : o .world .diagnostics ≡ countsAfter (o .answer) (w .diagnostics)
   reply : o .world .reply ≡ begun (w .reply) (take (sentOf (o .answer)) (o .world .reply))
@@ -58,7 +59,7 @@ quiet : (u : Unit) (w : World) (answer : Answer) → numberOf answer < 20 → co
 quiet u w answer low still silent =
     record {
       low = low;
-      memory = λ _. (refl, refl, refl, refl);
+      memory = λ _ _. (refl, refl, refl, refl);
       counts = sym still;
       reply = nothing-sent (w .reply) ∙ ap (λ (n : ℕ). begun (w .reply) (take n (w .reply))) (sym silent);
       address = refl;
@@ -71,7 +72,7 @@ a-drop : (u : Unit) (w : World) (answer : Answer) (which : ℕ) → numberOf ans
 a-drop u w answer which low counted silent =
     record {
       low = low;
-      memory = λ _. (refl, refl, refl, refl);
+      memory = λ _ _. (refl, refl, refl, refl);
       counts = sym counted;
       reply = nothing-sent (w .reply) ∙ ap (λ (n : ℕ). begun (w .reply) (take n (w .reply))) (sym silent);
       address = refl;
@@ -86,7 +87,7 @@ done-is-answered u w control message after =
     either-way (λ s. Serves u w (inWorld s (withHeld w after))) (polls control) _ _
     (λ _. record {
       low = omega arith;
-      memory = λ high. absurd (omega arith);
+      memory = λ one two. absurd (one refl);
       counts = refl;
       reply = something-sent (w .reply) (packedOf message);
       address = refl;
@@ -94,7 +95,7 @@ done-is-answered u w control message after =
     })
     (λ _. record {
       low = omega arith;
-      memory = λ high. absurd (omega arith);
+      memory = λ one two. absurd (two refl);
       counts = refl;
       reply = nothing-sent (w .reply);
       address = refl;
@@ -107,7 +108,7 @@ refused-is-answered u w control message =
     either-way (λ s. Serves u w (inWorld s w)) (polls control) _ _
     (λ _. record {
       low = omega arith;
-      memory = λ _. (refl, refl, refl, refl);
+      memory = λ _ _. (refl, refl, refl, refl);
       counts = refl;
       reply = something-sent (w .reply) (packedOf message);
       address = refl;
@@ -175,7 +176,7 @@ received-serves u byte w =
 high-counts : (answer : Answer) (diagnostics : List ℕ) → 20 ≤ numberOf answer → countsAfter answer diagnostics ≡ diagnostics
 high-counts answer diagnostics high = simp (le-leb 5 (numberOf answer) (omega arith), lt-leb (numberOf answer) 8 (omega arith))
 
-high-sends : (answer : Answer) → 20 ≤ numberOf answer → sentOf answer ≡ 0
+pub high-sends : (answer : Answer) → 20 ≤ numberOf answer → sentOf answer ≡ 0
 high-sends Taken high = refl
 high-sends (Acked n) high = absurd (omega arith)
 high-sends Done high = refl
@@ -205,7 +206,7 @@ what-every-answer-leaves u byte w = apart (stepFit u (lengthsOf w)) refl
         let high = a-refused-step-has-its-number u (lengthsOf w) answer e in
         record {
           nothing-by-a-refused-call = λ _. (refl, refl);
-          memory-by-a-failed-command = λ _. (refl, refl, refl, refl);
+          memory-unless-a-command-is-done = λ _ _. (refl, refl, refl, refl);
           counts = sym (high-counts answer (w .diagnostics) high);
           reply = nothing-sent (w .reply) ∙ ap (λ (n : ℕ). begun (w .reply) (take n (w .reply))) (sym (high-sends answer high));
           address = refl;
@@ -215,7 +216,7 @@ what-every-answer-leaves u byte w = apart (stepFit u (lengthsOf w)) refl
         let s = received-serves u byte w in
         record {
           nothing-by-a-refused-call = λ high. absurd (omega (arith, s .low));
-          memory-by-a-failed-command = s .memory;
+          memory-unless-a-command-is-done = s .memory;
           counts = s .counts;
           reply = s .reply;
           address = s .address;
@@ -229,3 +230,12 @@ unfolding stepOf receivedOf
 what-the-message-buffer-holds u byte w e =
     ap (λ f. unless f u w (receivedOf u byte w) .world .message) e
     ∙ heard-keeps (withReceiver u (receiveOf messageSize (u .receiver) byte (w .message) .receiver)) (receiveOf messageSize (u .receiver) byte (w .message) .heard) (withMessage w (receiveOf messageSize (u .receiver) byte (w .message) .message))
+
+-- A refused set-up hands back a record with which every later call is refused.
+pub a-refused-set-up-is-never-served : (address : ℕ) (w : World) (answer : Answer) → setUpFit address (lengthsOf w) ≡ Unfit answer → (byte : ℕ) (v : World)
+    → stepOf (setUpOf address w .unit) byte v ≡ outcome nobody BadAddress v
+unfolding setUpOf stepOf stepFit lengthsFit
+a-refused-set-up-is-never-served address w answer e byte v =
+    ap (λ f. stepOf (unless f nobody w
+    (outcome (record { address = address; mode = Bootloader; «fram_len» = length (w .fram); receiver = fresh }) Taken (withSums w (freshSums (w .fram)))) .unit)
+    byte v) e

@@ -6,7 +6,7 @@ use mathlib.Core.Logic.{inl, inr}
 use mathlib.Core.List.{List, [], _∷_, _++_, append-assoc}
 use Prim.Native.Nat.{ℕ, zero, suc, _+_, _-_, _*_, _/_, _%_, _^_, _≤_, _<_}
 use native.Mathlib.Omega.{arith}
-use borrow.Author.Tests.{le-leb, leb-true, le-ltb, eq-eqb, ne-eqb}
+use borrow.Author.Tests.{ltb-false, le-leb, leb-true, le-ltb, eq-eqb, ne-eqb}
 use lib.Dec.{leb, ltb, eqb}
 use lib.ListN.{length, take, drop, getD, replicate, length-append}
 use lib.Seq.{take-append-seam, getD-append-add, getD-append-seam}
@@ -20,6 +20,7 @@ use Rattle.line.specs.declared.receiver.Receiver.{Receiver}
 use Rattle.line.specs.declared.receiver.Heard.{Heard}
 use Rattle.line.specs.declared.receiver.Heard.the-variants as heard
 use Rattle.line.specs.Receiver.{fresh, opened, closedOf, Outcome as LineOutcome, receiveOf, Feed, feedOf}
+use Rattle.line.proofs.Escaping.{the-room-is-enough-for-the-longest}
 use Rattle.line.specs.Delivery.{deliveredOf}
 use Rattle.line.specs.Unpacking as unpacking
 use Rattle.line.specs.Unpacking.{unpackOf, keptOf, NoFend}
@@ -39,12 +40,13 @@ use Rattle.unit.specs.declared.Fit.the-variants.{Fits, Unfit}
 use Rattle.unit.specs.Answers.{sentOf}
 use Rattle.unit.specs.Replies.{codeOf, polls, replyControl, sealed, replyMessage}
 use Rattle.unit.specs.World.{World, lengthsOf, Outcome, outcome, withReceiver, withMessage, heldOf}
-use Rattle.unit.specs.Fitting.{framAsSetUp, countFit, lengthsFit, messageSize, stepFit, largestCount}
+use Rattle.unit.specs.Fitting.{framAsSetUp, countFit, lengthsFit, messageSize, replySize, stepFit, largestCount}
 use Rattle.unit.specs.Runs.{longestData, firstOfFram, Said, saying, answered, commandedOf, soundOf, runOf}
 use Rattle.unit.specs.Steps.{unless, heardOf, receivedOf, stepOf}
 use Rattle.unit.proofs.Serving.{all-passed, a-served-step-fits}
 use Rattle.demands.proofs.Replies.{part, Roomy, every-reply-has-room}
-use Rattle.demands.proofs.Cases.{either-way}
+use Rattle.demands.proofs.Cases.{either-way, a-refused-step-has-its-number}
+use Rattle.demands.proofs.DemandOne.{high-sends}
 use Rattle.demands.specs.Calls.{Lent, lentTo, Fed, answering, fedOf, bytesOf, delivering, Suits, AllSuit, Idle, orderedOf, answerMessage, Bytes}
 
 -- ---- byte by byte
@@ -348,3 +350,66 @@ module _ (u : Unit) (destination source control : ℕ) (field : List ℕ) (w : W
       let high = fits .1 in
       ap (λ l. feedOf messageSize receiver l theirs) (what-is-sent-is-the-packed-answer u destination source control field w polled came answers)
       ∙ what-is-packed-is-received-back messageSize (answerMessage destination source control field came) theirs (omega arith) (omega arith) (omega arith) receiver
+
+-- Where poll is clear nothing is sent, and the reply buffer is as it was.
+pub nothing-is-sent-where-poll-is-clear : (u : Unit) (destination source control : ℕ) (field : List ℕ) (w : World) → polls control ≡ false → (o : command.Outcome Held)
+    → (sentOf (answered u destination source control field o w .answer) ≡ 0) × (answered u destination source control field o w .world .reply ≡ w .reply)
+unfolding answered saying
+nothing-is-sent-where-poll-is-clear u destination source control field w clear (command.done reply after) = (simp clear, simp clear)
+nothing-is-sent-where-poll-is-clear u destination source control field w clear command.refused = (simp clear, simp clear)
+nothing-is-sent-where-poll-is-clear u destination source control field w clear command.unfitted = (refl, refl)
+
+-- What is sent has room in the reply buffer.
+done-answers : {reply : List ℕ} {after : Held} → command.done reply after ≡ command.unfitted → ⊥
+done-answers e = let z : _≡_ {A = ℕ} 0 1 = cc in absurd (omega arith)
+
+refused-answers : _≡_ {A = command.Outcome Held} command.refused command.unfitted → ⊥
+refused-answers e = let z : _≡_ {A = ℕ} 0 1 = cc in absurd (omega arith)
+
+answered-fits : (u : Unit) (destination source control : ℕ) (field : List ℕ) (o : command.Outcome Held) (w : World) → length field ≤ longestData → Roomy longestData o
+    → replySize ≤ length (w .reply) → sentOf (answered u destination source control field o w .answer) ≤ length (w .reply)
+unfolding answered saying
+answered-fits u destination source control field (command.done reply after) w short fits roomy =
+    let high = legal destination source control field (command.done reply after) done-answers short fits .1 in
+    let packed = the-room-is-enough-for-the-longest (replyMessage 1 destination source control reply) (omega arith) in
+    either-way (λ (s : Said). sentOf (s .answer) ≤ length (w .reply)) (polls control) _ _ (λ _. omega arith) (λ _. omega arith)
+answered-fits u destination source control field command.refused w short fits roomy =
+    let high = legal destination source control field command.refused refused-answers short fits .1 in
+    let packed = the-room-is-enough-for-the-longest (replyMessage 0 destination source control field) (omega arith) in
+    either-way (λ (s : Said). sentOf (s .answer) ≤ length (w .reply)) (polls control) _ _ (λ _. omega arith) (λ _. omega arith)
+answered-fits u destination source control field command.unfitted w short fits roomy = omega arith
+
+heard-fits : (u : Unit) (h : Heard) (w : World) → replySize ≤ length (w .reply) → sentOf (heardOf u h w .answer) ≤ length (w .reply)
+unfolding heardOf runOf commandedOf
+heard-fits u heard.Taken w roomy = omega arith
+heard-fits u heard.Empty w roomy = omega arith
+heard-fits u heard.Framing w roomy = omega arith
+heard-fits u (heard.Message count) w roomy =
+    either-way (λ (o : Outcome). sentOf (o .answer) ≤ length (w .reply)) (ltb count 5) _ _ (λ _. omega arith)
+    (λ _. either-way (λ (o : Outcome). sentOf (o .answer) ≤ length (w .reply)) (ltb messageSize count) _ _ (λ _. omega arith)
+    (λ within. either-way (λ (o : Outcome). sentOf (o .answer) ≤ length (w .reply)) (soundOf count (w .message)) _ _
+    (λ _. either-way (λ (o : Outcome). sentOf (o .answer) ≤ length (w .reply)) (eqb (getD (w .message) 0 0) (u .address)) _ _
+    (λ _. carried (getD (w .message) 2 0) (stretch 3 (count - 5) (w .message)) (short (ltb-false messageSize count within)))
+    (λ _. omega arith))
+    (λ _. omega arith)))
+  where
+    short : count ≤ messageSize → length (stretch 3 (count - 5) (w .message)) ≤ longestData
+    short within = let h = part (count - 5) (drop 3 (w .message)) in omega arith
+
+    carried : (control : ℕ) (field : List ℕ) → length field ≤ longestData
+        → sentOf (answered u (getD (w .message) 0 0) (getD (w .message) 1 0) control field
+        (commandOf longestData firstOfFram (codeOf control) (w .diagnostics) (heldOf u w) field) w .answer)
+        ≤ length (w .reply)
+    carried control field h =
+        answered-fits u (getD (w .message) 0 0) (getD (w .message) 1 0) control field (commandOf longestData firstOfFram (codeOf control) (w .diagnostics) (heldOf u w) field) w h
+        (every-reply-has-room longestData (omega arith) firstOfFram (codeOf control) (w .diagnostics) (heldOf u w) field h) roomy
+
+pub what-is-sent-fits-the-reply-buffer : (u : Unit) (byte : ℕ) (w : World) → sentOf (stepOf u byte w .answer) ≤ length (w .reply)
+unfolding stepOf receivedOf
+what-is-sent-fits-the-reply-buffer u byte w = apart (stepFit u (lengthsOf w)) refl
+  where
+    apart : (f : Fit) → stepFit u (lengthsOf w) ≡ f → sentOf (unless f u w (receivedOf u byte w) .answer) ≤ length (w .reply)
+    apart (Unfit answer) e = let z = high-sends answer (a-refused-step-has-its-number u (lengthsOf w) answer e) in omega arith
+    apart Fits e =
+        let next = receiveOf messageSize (u .receiver) byte (w .message) in
+        heard-fits (withReceiver u (next .receiver)) (next .heard) (withMessage w (next .message)) (a-served-step-fits u w e .reply-fits)

@@ -21,8 +21,8 @@ countsAfter answer diagnostics =
 pub record Leaves (u : Unit) (w : World) (o : Outcome) : Type 0 where
   -- 20 to 26 change nothing at all.
   pub nothing-by-a-refused-call : 20 ≤ numberOf (o .answer) → (o .unit ≡ u) × (o .world ≡ w)
-  -- 3 to 10 leave EDAC, FRAM, sums and mode unchanged, and so do 20 to 26.
-  pub memory-by-a-failed-command : 3 ≤ numberOf (o .answer)
+  -- 3 to 10 leave EDAC, FRAM, sums and mode unchanged, and so do 0 and 20 to 26: all but a command done.
+  pub memory-unless-a-command-is-done : (numberOf (o .answer) ≡ 1 → ⊥) → (numberOf (o .answer) ≡ 2 → ⊥)
       → (o .world .edac ≡ w .edac) × (o .world .fram ≡ w .fram) × (o .world .sums ≡ w .sums) × (o .unit .mode ≡ u .mode)
   pub counts : o .world .diagnostics ≡ countsAfter (o .answer) (w .diagnostics)
   -- A sent reply is the written first part of the reply buffer; its other bytes, and the whole buffer where nothing is sent, are
