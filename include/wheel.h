@@ -103,10 +103,11 @@ struct wheel_stepped wheel_set_up(uint8_t address, const uint8_t *edac, size_t e
                                   size_t diagnostics_len, const uint8_t *message, size_t message_len,
                                   const uint8_t *reply, size_t reply_len);
 
-/* One byte from the line. It may write any of the six; it is lent the same memory at each call of a unit. Where it answers
+/* One byte from the line. It may write any of the six. The sums must be those of this FRAM, as set-up and earlier calls left
+ * them, and while a run is open the message buffer is to be left alone; the rest may be another at each call. Where it answers
  * WHEEL_ACKED or WHEEL_NACKED, the first `sent` bytes of the reply buffer are to be sent; the others of that buffer, and
  * all of it where nothing is sent, are as they were. With WHEEL_BAD_ADDRESS to WHEEL_BAD_COUNT, lowest number first, nothing
- * at all changes and the byte is lost. */
+ * at all changes and the byte is lost; the record comes back with its mode and place as they are read (see above). */
 struct wheel_stepped wheel_step(struct wheel_unit unit, uint8_t byte, uint8_t *edac, size_t edac_len, uint8_t *fram,
                                 size_t fram_len, uint16_t *sums, size_t sums_len, uint32_t *diagnostics,
                                 size_t diagnostics_len, uint8_t *message, size_t message_len, uint8_t *reply,
