@@ -1,7 +1,7 @@
 -- Going by the cases of a test, and of a refusal. Assumes nothing.
-use mathlib.Core.Path.{_≡_, refl, sym, ap, _∙_, subst}
-use mathlib.Core.Bool.{Bool, true, false, cond, _&&_, _||_}
-use Prim.Native.Nat.{ℕ, _≤_, _<_}
+use mathlib.Core.Path.{_≡_, refl, subst}
+use mathlib.Core.Bool.{Bool, true, false, cond, _||_}
+use Prim.Native.Nat.{ℕ, _≤_}
 use native.Mathlib.Omega.{arith}
 use lib.Dec.{eqb, leb, ltb}
 use Rattle.memory.specs.Edac.{edacSize}
@@ -9,11 +9,11 @@ use Rattle.memory.specs.Fram.{blockStart}
 use Rattle.unit.specs.declared.Unit.{Unit}
 use Rattle.unit.specs.declared.Lengths.{Lengths}
 use Rattle.unit.specs.declared.Answer.{Answer}
-use Rattle.unit.specs.declared.Answer.the-variants.{BadAddress, BadEdac, BadFram, BadSums, BadDiagnostics, BadBuffers, BadCount}
+use Rattle.unit.specs.declared.Answer.the-variants.{BadCount}
 use Rattle.unit.specs.declared.Fit.{Fit}
 use Rattle.unit.specs.declared.Fit.the-variants.{Fits, Unfit}
 use Rattle.unit.specs.Answers.{numberOf}
-use Rattle.unit.specs.Fitting.{forbidden, framFits, framAsSetUp, countFit, channels, messageSize, replySize, largestCount, lengthsFit, setUpFit, stepFit}
+use Rattle.unit.specs.Fitting.{forbidden, framAsSetUp, countFit, channels, messageSize, replySize, largestCount, lengthsFit, stepFit}
 
 -- what holds either way holds of the choice
 pub either-way : {A : Type 0} (P : A → Type 0) (b : Bool) (x y : A) → (b ≡ true → P x) → (b ≡ false → P y) → P (cond b x y)

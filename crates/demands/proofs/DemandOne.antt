@@ -1,24 +1,23 @@
 -- Demand 1: every byte on the line, in every state, gets a defined answer, and what each answer leaves is settled. That the unit
 -- never halts, and that nobody outside has to check first, is what is proved of `unit::step`: it has no `requires`, and gives the
 -- outcome that `stepOf` says for every record, byte and lent buffers of any length. Assumes nothing.
-use mathlib.Core.Path.{_≡_, refl, sym, ap, ap₂, _∙_, subst}
-use mathlib.Core.Bool.{Bool, true, false, cond, _&&_}
-use mathlib.Core.List.{List, [], _∷_, _++_}
+use mathlib.Core.Path.{_≡_, refl, sym, ap, _∙_}
+use mathlib.Core.List.{List}
 use Prim.Native.Nat.{ℕ, _+_, _-_, _≤_, _<_}
 use native.Mathlib.Omega.{arith}
 use borrow.Author.Tests.{le-leb, lt-leb}
-use lib.Dec.{leb, ltb, eqb}
-use lib.ListN.{length, take, drop, getD}
+use lib.Dec.{ltb, eqb}
+use lib.ListN.{length, take, getD}
 use Rattle.line.specs.declared.receiver.Heard.{Heard}
 use Rattle.line.specs.declared.receiver.Heard.the-variants as heard
 use Rattle.line.specs.Receiver.{receiveOf, fresh}
 use Rattle.line.specs.Packing.{packedOf}
-use Rattle.memory.specs.Bytes.{stretch, begun}
+use Rattle.memory.specs.Bytes.{begun}
 use Rattle.memory.specs.Counts.{countedUp}
 use Rattle.memory.specs.Fram.{freshSums}
 use Rattle.memory.proofs.Stretches.{the-written-part-is-handed-back}
 use Rattle.command.specs.Outcome as command
-use Rattle.command.specs.Command.{Held, commandOf}
+use Rattle.command.specs.Command.{Held}
 use Rattle.command.specs.declared.Mode.the-variants.{Bootloader}
 use Rattle.unit.specs.declared.Unit.{Unit}
 use Rattle.unit.specs.declared.Answer.{Answer}
@@ -26,10 +25,10 @@ use Rattle.unit.specs.declared.Answer.the-variants.{Taken, Acked, Done, Nacked,
 use Rattle.unit.specs.declared.Fit.{Fit}
 use Rattle.unit.specs.declared.Fit.the-variants.{Fits, Unfit}
 use Rattle.unit.specs.Answers.{numberOf, sentOf}
-use Rattle.unit.specs.World.{World, lengthsOf, Outcome, outcome, withSums, withReceiver, withMode, withMessage, withDiagnostics, withReply, heldOf, withHeld}
+use Rattle.unit.specs.World.{World, lengthsOf, Outcome, outcome, withSums, withReceiver, withMode, withMessage, withHeld}
 use Rattle.unit.specs.Fitting.{messageSize, stepFit, lengthsFit, setUpFit}
-use Rattle.unit.specs.Replies.{polls, codeOf, replyMessage}
-use Rattle.unit.specs.Runs.{longestData, firstOfFram, firstCount, dropped, said, saying, inWorld, answered, commandedOf, soundOf, runOf}
+use Rattle.unit.specs.Replies.{polls, replyMessage}
+use Rattle.unit.specs.Runs.{firstCount, dropped, saying, inWorld, answered, commandedOf, soundOf, runOf}
 use Rattle.unit.specs.Steps.{unless, heardOf, receivedOf, stepOf, nobody, setUpOf}
 use Rattle.demands.specs.Leaving.{countsAfter, Leaves}
 use Rattle.demands.proofs.Cases.{either-way, a-refused-step-has-its-number}

@@ -3,9 +3,9 @@
 use mathlib.Core.Path.{_≡_, refl, sym, ap, ap₂, _∙_, subst}
 use mathlib.Core.Bool.{Bool, true, false, cond, _&&_, false≢true}
 use mathlib.Core.List.{List, [], _∷_, _++_}
-use Prim.Native.Nat.{ℕ, suc, _+_, _-_, _*_, _/_, _%_, _^_, _≤_, _<_}
+use Prim.Native.Nat.{ℕ, _+_, _-_, _*_, _/_, _%_, _≤_, _<_}
 use native.Mathlib.Omega.{arith}
-use borrow.Author.Tests.{le-leb, lt-leb, eqb-true, eq-eqb, le-ltb}
+use borrow.Author.Tests.{le-leb, lt-leb, eq-eqb, le-ltb}
 use lib.Dec.{leb, ltb, eqb}
 use lib.ListN.{length, take, drop, getD, length-drop}
 use Rattle.crc.specs.Sum.{sumOf}
@@ -16,7 +16,7 @@ use Rattle.line.proofs.Bounds.{the-count-never-passes-one-above-the-largest}
 use Rattle.line.specs.Framing.{fend}
 use Rattle.line.specs.Receiver.{opened, receiveOf}
 use Rattle.line.specs.Packing.{bodyOf, packedOf}
-use Rattle.field.specs.Fields.{word16At, word32At, bytes16, bytes32}
+use Rattle.field.specs.Fields.{word32At, bytes16, bytes32}
 use Rattle.memory.specs.Bytes.{stretch}
 use Rattle.memory.specs.declared.fram.Found.{Found}
 use Rattle.memory.specs.declared.fram.Found.the-variants.{At, Outside}
@@ -25,7 +25,6 @@ use Rattle.memory.proofs.Tests.{either-side}
 use Rattle.memory.proofs.Refreshing.{fresh-length, right-sums-stay-right, a-store-keeps-the-memory's-length}
 use Rattle.memory.proofs.Ranges.{a-range-under-right-sums-is-fresh}
 use Rattle.command.specs.declared.Mode.{Mode}
-use Rattle.command.specs.declared.Mode.the-variants.{Bootloader, Application}
 use Rattle.command.specs.Outcome as command
 use Rattle.command.specs.Ping.{pingOf}
 use Rattle.command.specs.Init.{initOf}
@@ -35,18 +34,16 @@ use Rattle.command.specs.Poke.{pokeOf}
 use Rattle.command.specs.Crc.{bytesFrom, crcOf}
 use Rattle.command.specs.Command.{Held, held, inside, reading, framCommandOf, edacCommandOf, inApplication, commandOf}
 use Rattle.command.proofs.Ways.{a-place-lies-inside, crc-inside}
-use Rattle.command.proofs.Codes.{code-below-files, code-of-crc}
 use Rattle.unit.specs.declared.Unit.{Unit}
-use Rattle.unit.specs.declared.Answer.{Answer}
 use Rattle.unit.specs.declared.Answer.the-variants.{Taken, Elsewhere}
 use Rattle.unit.specs.declared.Fit.{Fit}
 use Rattle.unit.specs.declared.Fit.the-variants.{Fits, Unfit}
 use Rattle.unit.specs.Replies.{codeOf, polls, sealed, replyMessage}
 use Rattle.unit.specs.Answers.{sentOf}
 use Rattle.unit.specs.World.{World, lengthsOf, Outcome, outcome, withReceiver, withMessage, heldOf}
-use Rattle.unit.specs.Fitting.{forbidden, framAsSetUp, lengthsFit, channels, messageSize, replySize, framFits, setUpFit, stepFit}
+use Rattle.unit.specs.Fitting.{lengthsFit, channels, messageSize, replySize, framFits, setUpFit, stepFit}
 use Rattle.memory.specs.Edac.{edacSize}
-use Rattle.unit.specs.Runs.{longestData, firstOfFram, saying, inWorld, answered, commandedOf, soundOf, runOf}
+use Rattle.unit.specs.Runs.{longestData, firstOfFram, answered, commandedOf, soundOf, runOf}
 use Rattle.unit.specs.Steps.{unless, setUpOf, heardOf, receivedOf, stepOf}
 use Rattle.unit.proofs.Serving.{Passed, all-passed, a-served-set-up-fits, set-up-served}
 use Rattle.demands.specs.Calls.{Lent, lentTo, Fed, fedOf, bytesOf, delivering, Suits, AllSuit, Idle, Bytes, Call, with-its-memory, with-another, Own, own, lending, ownOf, calledOf, Right, Inside}

@@ -1,25 +1,23 @@
 -- Demand 2: a message that is packed and sent to the unit is judged and carried out as 01 says, and what the unit packs is received
 -- back. Assumes nothing.
 use mathlib.Core.Path.{_≡_, refl, sym, ap, ap₂, _∙_, subst}
-use mathlib.Core.Bool.{Bool, true, false, cond, false≢true}
+use mathlib.Core.Bool.{true, false, cond}
 use mathlib.Core.Logic.{inl, inr}
 use mathlib.Core.List.{List, [], _∷_, _++_, append-assoc}
-use Prim.Native.Nat.{ℕ, zero, suc, _+_, _-_, _*_, _/_, _%_, _^_, _≤_, _<_}
+use Prim.Native.Nat.{ℕ, suc, _+_, _-_, _*_, _/_, _%_, _^_, _≤_, _<_}
 use native.Mathlib.Omega.{arith}
-use borrow.Author.Tests.{ltb-false, le-leb, leb-true, le-ltb, eq-eqb, ne-eqb}
-use lib.Dec.{leb, ltb, eqb}
+use borrow.Author.Tests.{ltb-false, le-leb, le-ltb, eq-eqb}
+use lib.Dec.{ltb, eqb}
 use lib.ListN.{length, take, drop, getD, replicate, length-append}
 use lib.Seq.{take-append-seam, getD-append-add, getD-append-seam}
 use Rattle.crc.specs.Sum.{start, byteStep, sumFrom, sumOf}
 use Rattle.crc.proofs.Halving.{byteStep-below}
 use Rattle.line.specs.Framing.{fend}
-use Rattle.line.specs.Packing.{bodyOf, packedOf, longest}
-use Rattle.line.specs.declared.receiver.Place.{Place}
-use Rattle.line.specs.declared.receiver.Place.the-variants.{Fresh, Run}
+use Rattle.line.specs.Packing.{bodyOf, packedOf}
 use Rattle.line.specs.declared.receiver.Receiver.{Receiver}
 use Rattle.line.specs.declared.receiver.Heard.{Heard}
 use Rattle.line.specs.declared.receiver.Heard.the-variants as heard
-use Rattle.line.specs.Receiver.{fresh, opened, closedOf, Outcome as LineOutcome, receiveOf, Feed, feedOf}
+use Rattle.line.specs.Receiver.{opened, closedOf, Outcome as LineOutcome, receiveOf, Feed, feedOf}
 use Rattle.line.proofs.Escaping.{the-room-is-enough-for-the-longest}
 use Rattle.line.specs.Delivery.{deliveredOf}
 use Rattle.line.specs.Unpacking as unpacking
@@ -32,22 +30,20 @@ use Rattle.memory.specs.Bytes.{stretch, begun}
 use Rattle.command.specs.Outcome as command
 use Rattle.command.specs.Command.{Held, commandOf}
 use Rattle.unit.specs.declared.Unit.{Unit}
-use Rattle.unit.specs.declared.Lengths.{Lengths}
-use Rattle.unit.specs.declared.Answer.{Answer}
 use Rattle.unit.specs.declared.Answer.the-variants.{Taken, Elsewhere, BadCount}
 use Rattle.unit.specs.declared.Fit.{Fit}
 use Rattle.unit.specs.declared.Fit.the-variants.{Fits, Unfit}
 use Rattle.unit.specs.Answers.{sentOf}
 use Rattle.unit.specs.Replies.{codeOf, polls, replyControl, sealed, replyMessage}
 use Rattle.unit.specs.World.{World, lengthsOf, Outcome, outcome, withReceiver, withMessage, heldOf}
-use Rattle.unit.specs.Fitting.{framAsSetUp, countFit, lengthsFit, messageSize, replySize, stepFit, largestCount}
+use Rattle.unit.specs.Fitting.{framAsSetUp, countFit, lengthsFit, messageSize, replySize, stepFit}
 use Rattle.unit.specs.Runs.{longestData, firstOfFram, Said, saying, answered, commandedOf, soundOf, runOf}
 use Rattle.unit.specs.Steps.{unless, heardOf, receivedOf, stepOf}
-use Rattle.unit.proofs.Serving.{all-passed, a-served-step-fits}
+use Rattle.unit.proofs.Serving.{a-served-step-fits}
 use Rattle.demands.proofs.Replies.{part, Roomy, every-reply-has-room}
 use Rattle.demands.proofs.Cases.{either-way, a-refused-step-has-its-number}
 use Rattle.demands.proofs.DemandOne.{high-sends}
-use Rattle.demands.specs.Calls.{Lent, lentTo, Fed, answering, fedOf, bytesOf, delivering, Suits, AllSuit, Idle, orderedOf, answerMessage, Bytes}
+use Rattle.demands.specs.Calls.{Lent, lentTo, answering, fedOf, bytesOf, delivering, Suits, AllSuit, Idle, orderedOf, answerMessage, Bytes}
 
 -- ---- byte by byte
 

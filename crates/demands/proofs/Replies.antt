@@ -1,16 +1,14 @@
 -- No command's reply is longer than a message has room for. Assumes nothing.
-use mathlib.Core.Path.{_≡_, refl, sym, ap, _∙_, subst}
-use mathlib.Core.Bool.{Bool, true, false, cond}
+use mathlib.Core.Path.{_≡_}
 use mathlib.Core.List.{List, [], _∷_, _++_}
-use Prim.Native.Nat.{ℕ, zero, suc, _+_, _-_, _*_, _≤_, _<_, min}
-use native.Mathlib.Nat.{min-le-left}
+use Prim.Native.Nat.{ℕ, zero, suc, _+_, _-_, _*_, _≤_}
 use native.Mathlib.Omega.{arith}
 use borrow.Author.Tests.{ltb-false, eqb-true}
-use lib.Dec.{eqb, ltb, leb}
+use lib.Dec.{eqb, ltb}
 use lib.ListN.{length, take, drop, getD, length-append, length-take}
 use Rattle.field.specs.Fields.{word16At, word32At, bytes16, shortCount}
 use Rattle.memory.specs.Bytes.{stretch, stored}
-use Rattle.memory.specs.Edac.{modePlace, bytesOf, bodySize, shownSize, fileShown, insideEdac}
+use Rattle.memory.specs.Edac.{bytesOf, bodySize, shownSize, fileShown, insideEdac}
 use Rattle.memory.specs.declared.fram.Found.{Found}
 use Rattle.memory.specs.declared.fram.Found.the-variants.{At, Outside}
 use Rattle.memory.specs.Fram.{Kept, placeOf, storeOf, rangeSum}
@@ -24,7 +22,7 @@ use Rattle.command.specs.Poke.{pokeOf}
 use Rattle.command.specs.Diagnostic.{allChannels, channelsShown, diagnosticOf}
 use Rattle.command.specs.Crc.{bytesFrom, crcOf}
 use Rattle.command.specs.ReadFile.{filesShown, filesWidth, readFileOf}
-use Rattle.command.specs.WriteFile.{Listed, end, short, file, listed, whole, filesOf, filesStored, writeFileOf}
+use Rattle.command.specs.WriteFile.{listed, whole, filesOf, filesStored, writeFileOf}
 use Rattle.command.specs.ReadEdac.{edacReadOf, readEdacOf}
 use Rattle.command.specs.WriteEdac.{writeEdacOf}
 use Rattle.command.specs.Gather.{rangesHold, rangesWidth, rangesShown, gatherOf}

@@ -1,26 +1,23 @@
 -- 01's small examples hold: each by computation from the definitions. Assumes nothing.
 use mathlib.Core.Path.{refl}
-use mathlib.Core.List.{List, [], _∷_, _++_}
-use Prim.Native.Nat.{ℕ}
+use mathlib.Core.List.{[], _∷_}
 use lib.ListN.{take, replicate}
 use mathlib.Core.Path.{_≡_}
 use Rattle.crc.specs.Sum.{bitStep, bitSteps, byteStep, sumFrom, sumOf}
 use Rattle.crc.proofs.Examples as sum
 use Rattle.line.proofs.Examples as line
-use Rattle.line.specs.Receiver.{receiveOf, insideOf, afterEscapeOf, closedOf, storedOf, countedOf}
+use Rattle.line.specs.Receiver.{receiveOf, insideOf, closedOf, storedOf, countedOf}
 use Rattle.line.specs.Packing.{escapedOf}
 use Rattle.memory.specs.Bytes.{begun}
 use Rattle.memory.specs.Fram.{freshSums, freshFrom}
 use Rattle.memory.specs.Counts.{countedUp}
 use Rattle.command.proofs.Examples as command
 use Rattle.command.specs.Command.{framCommandOf, commandOf}
-use Rattle.unit.specs.declared.Answer.{Answer}
 use Rattle.unit.specs.declared.Answer.the-variants.{Taken, Acked, Runt}
 use Rattle.unit.specs.Replies.{sealed, replyMessage}
 use Rattle.unit.specs.Fitting.{lengthsFit, setUpFit, stepFit}
 use Rattle.unit.specs.Runs.{saying, answered, commandedOf, runOf}
 use Rattle.unit.specs.Steps.{setUpOf, heardOf, receivedOf, stepOf}
-use Rattle.demands.specs.Calls.{Fed, fedOf}
 use Rattle.demands.specs.Worked.{WorkedExamples, heard}
 
 ping : let f = heard (0xC0 ∷ 0x41 ∷ 0x11 ∷ 0x80 ∷ 0xD8 ∷ 0x6D ∷ []) 0xC0 in

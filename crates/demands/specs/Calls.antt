@@ -1,7 +1,7 @@
 -- Calls one after the other, as demands 2 and 3 speak of them. Assumes nothing.
 use Prim.Native.Nat.{ℕ, _+_, _-_, _≤_, _<_}
 use mathlib.Core.Path.{_≡_}
-use mathlib.Core.List.{List, [], _∷_, _++_}
+use mathlib.Core.List.{List, [], _∷_}
 use lib.ListN.{length, replicate}
 use mathlib.Core.Bool.{cond}
 use mathlib.Core.Logic.{_⊎_}
@@ -9,7 +9,7 @@ use lib.Dec.{eqb}
 use Rattle.line.specs.declared.receiver.Receiver.{Receiver}
 use Rattle.line.specs.declared.receiver.Heard.the-variants as heard
 use Rattle.line.specs.Receiver.{closedOf}
-use Rattle.memory.specs.Fram.{Kept, kept, freshSums, blockStart}
+use Rattle.memory.specs.Fram.{Kept, kept, freshSums}
 use Rattle.command.specs.Outcome as command
 use Rattle.command.specs.Command.{Held, commandOf}
 use Rattle.unit.specs.declared.Unit.{Unit}

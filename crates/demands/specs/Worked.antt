@@ -11,7 +11,6 @@ use Rattle.memory.specs.Bytes.{stored}
 use Rattle.command.specs.Outcome as command
 use Rattle.command.specs.ReadFile.{readFileOf}
 use Rattle.command.specs.WriteFile.{writeFileOf}
-use Rattle.unit.specs.declared.Answer.{Answer}
 use Rattle.unit.specs.declared.Answer.the-variants.{Taken, Acked, Runt}
 use Rattle.unit.specs.World.{World, world}
 use Rattle.unit.specs.Runs.{longestData}
