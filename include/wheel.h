@@ -25,7 +25,6 @@ extern "C" {
 
 /* The numbers of the answers. Only WHEEL_ACKED, WHEEL_NACKED and a packing that is WHEEL_TAKEN have bytes to send. */
 #define WHEEL_TAKEN 0u            /* set up; packed; joined; byte taken, or an empty run closed */
-#define WHEEL_DONE WHEEL_TAKEN    /* the same number, as joining calls it */
 #define WHEEL_ACKED 1u            /* command done, poll set: an ACK reply */
 #define WHEEL_DONE_SILENT 2u      /* command done, poll clear */
 #define WHEEL_NACKED 3u           /* command refused, poll set: a NACK reply */
@@ -89,9 +88,9 @@ struct wheel_part {
     uint32_t len;
 };
 
-/* What joining answers: WHEEL_DONE and the part, or WHEEL_TOO_LONG and zeros. */
+/* What joining answers: the number, and the part, which is zeros with WHEEL_TOO_LONG. */
 struct wheel_joined {
-    uint32_t answer;
+    uint8_t answer; /* WHEEL_TAKEN or WHEEL_TOO_LONG */
     struct wheel_part part;
 };
 

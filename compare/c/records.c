@@ -162,6 +162,31 @@ int main(void) {
     same("packed", sent.sent, sizeof packed);
     same("packed", (unsigned long long)memcmp(&lent, &before, sizeof lent), 0);
 
+    /* Joining: with no bytes on either side a part comes back as it was, with all bits of its fields; and its refusal. */
+    const uint16_t some[] = {0, 1, 0x0123, 0xFEDC, 0xFFFF};
+    const uint32_t lengths[] = {0, 1, 0x01234567u, 0xFEDCBA98u, 0xFFFFFFFFu};
+    const struct wheel_part none = {WHEEL_CRC_START, 0};
+    const struct wheel_part one = {0x5555, 1};
+    for (size_t i = 0; i < 5; i++) {
+        for (size_t k = 0; k < 5; k++) {
+            const struct wheel_part part = {some[i], lengths[k]};
+            const struct wheel_joined after = wheel_join(none, part);
+            same("joined after none", after.answer, WHEEL_TAKEN);
+            same("joined after none", after.part.sum, part.sum);
+            same("joined after none", after.part.len, part.len);
+            const struct wheel_joined ahead = wheel_join(part, none);
+            same("joined ahead of none", ahead.answer, WHEEL_TAKEN);
+            same("joined ahead of none", ahead.part.sum, part.sum);
+            same("joined ahead of none", ahead.part.len, part.len);
+            const struct wheel_joined more = wheel_join(part, one);
+            same("joined with one", more.answer, part.len == 0xFFFFFFFFu ? WHEEL_TOO_LONG : WHEEL_TAKEN);
+            same("joined with one", more.part.len, part.len == 0xFFFFFFFFu ? 0 : part.len + 1);
+            if (part.len == 0xFFFFFFFFu) {
+                same("joining 36", more.part.sum, 0);
+            }
+        }
+    }
+
     puts(bad ? "the C records: BAD" : "the C records: ok");
     return bad;
 }

@@ -24,7 +24,7 @@ int main(void) {
         const struct wheel_part first = {wheel_crc(text, cut), (uint32_t)cut};
         const struct wheel_part second = {wheel_crc(text + cut, rest), (uint32_t)rest};
         const struct wheel_joined whole = wheel_join(first, second);
-        same("joined answer", whole.answer, WHEEL_DONE);
+        same("joined answer", whole.answer, WHEEL_TAKEN);
         same("joined sum", whole.part.sum, 0x6F91);
         same("joined length", whole.part.len, sizeof text);
     }

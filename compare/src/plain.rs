@@ -87,8 +87,8 @@ pub fn carried_one_by_one(value: u16, n: u32) -> u16 {
     (0..n).fold(value, |value, _| bit_by_bit(value, &[0]))
 }
 
-pub fn join(first: Part, second: Part) -> Result<Part, u32> {
-    let len = first.len.checked_add(second.len).ok_or(36u32)?;
+pub fn join(first: Part, second: Part) -> Result<Part, u8> {
+    let len = first.len.checked_add(second.len).ok_or(36u8)?;
     Ok(Part {
         sum: carried(first.sum ^ START, second.len) ^ second.sum,
         len,

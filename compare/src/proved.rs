@@ -11,7 +11,7 @@ struct WheelPart {
 
 #[repr(C)]
 struct WheelJoined {
-    answer: u32,
+    answer: u8,
     part: WheelPart,
 }
 
@@ -30,7 +30,7 @@ pub fn crc_from(start: u16, bytes: &[u8]) -> u16 {
 }
 
 /// The joined part, or the number of the refusal. A refusal that brings a part is a fault of the face.
-pub fn join(first: Part, second: Part) -> Result<Part, u32> {
+pub fn join(first: Part, second: Part) -> Result<Part, u8> {
     let lent = |p: Part| WheelPart {
         sum: p.sum,
         len: p.len,

@@ -102,7 +102,7 @@ fn joining_agrees_with_a_matrix_of_bits() {
     for turn in 0..100_000 {
         let sizes = if turn % 2 == 0 { 32 } else { 2 };
         let (a, b) = (any(&mut seeded, sizes), any(&mut seeded, sizes));
-        assert_eq!(second::join(a, b).map_err(u32::from), plain::join(a, b));
+        assert_eq!(second::join(a, b), plain::join(a, b));
     }
 }
 

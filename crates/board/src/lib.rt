@@ -26,7 +26,7 @@ pub struct WheelPart {
 // The paper's number of joining, and the part, which is all zeros where there is none.
 #[repr(C)]
 pub struct WheelJoined {
-    pub answer: u32,
+    pub answer: u8,
     pub part: WheelPart,
 }
 
