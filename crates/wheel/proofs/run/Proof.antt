@@ -1,5 +1,5 @@
--- `wheel::run` is safe and ends: what is lent keeps its lengths, and the measure is the number of turns that are left. Assumes nothing.
-use mathlib.Core.Path.{_≡_}
+-- `wheel::run` is safe and ends: FRAM and sums keep their lengths, and the measure is the number of turns that are left. Assumes nothing.
+use mathlib.Core.Path.{_≡_, refl, _∙_}
 use lib.ListN.{length}
 use borrow.Author.Needs.{needs}
 use native.Mathlib.Omega.{arith}
@@ -7,81 +7,56 @@ use Rattle.wheel.proofs.run.Statement.{statement}
 use Rattle.wheel.proofs.run.Tie as tie
 
 abbrev Inv-loop : tie.InvT-loop
-Inv-loop edac₀ fram₀ sums₀ diagnostics₀ message₀ reply₀ out₀ tally₀ running₀ turns₀ edac fram sums diagnostics message reply out tally running turns =
-    (length edac ≡ length edac₀) × (length fram ≡ length fram₀) × (length sums ≡ length sums₀) × (length diagnostics ≡ length diagnostics₀) × (length message ≡ length message₀) × (length reply ≡ length reply₀) × (length out ≡ length out₀) × (length tally ≡ length tally₀)
+Inv-loop address edac₀ fram₀ sums₀ diagnostics₀ message₀ reply₀ buffer₀ tally₀ fed₀ flow₀ turns₀ edac fram sums diagnostics message reply buffer tally fed flow turns = (length fram ≡ length fram₀) × (length sums ≡ length sums₀)
 
 abbrev μ-loop : tie.MeasureT-loop
-μ-loop edac₀ fram₀ sums₀ diagnostics₀ message₀ reply₀ out₀ tally₀ running₀ turns₀ edac fram sums diagnostics message reply out tally running turns =
+μ-loop address edac₀ fram₀ sums₀ diagnostics₀ message₀ reply₀ buffer₀ tally₀ fed₀ flow₀ turns₀ edac fram sums diagnostics message reply buffer tally fed flow turns =
     turns
 
+begun-requires : tie.Need-begun-requires Inv-loop μ-loop
+begun-requires c κs = tt
+
+opened-requires : tie.Need-opened-requires Inv-loop μ-loop
+opened-requires c κs = tt
+
+left-requires : tie.Need-left-requires Inv-loop μ-loop
+left-requires c κs = search needs
+
 loop-holds : tie.Need-loop-holds Inv-loop μ-loop
-loop-holds c = search needs
+loop-holds c = (refl, refl)
 
-turn-requires : tie.Need-turn-requires Inv-loop μ-loop
-turn-requires c κs = search needs
+feed-requires : tie.Need-feed-requires Inv-loop μ-loop
+feed-requires c κs = tt
 
-sub-turns : tie.Need-sub-turns Inv-loop μ-loop
-sub-turns c = omega arith
+count-requires : tie.Need-count-requires Inv-loop μ-loop
+count-requires c κs = tt
+
+answered-requires : tie.Need-answered-requires Inv-loop μ-loop
+answered-requires c κs = tt
+
+left-requires-2 : tie.Need-left-requires-2 Inv-loop μ-loop
+left-requires-2 c κs = c .before .before .before .before .before .before .before .before .before .before .before .before .before .before .before .before .loop-test .taken
 
 loop-less : tie.Need-loop-less Inv-loop μ-loop
-loop-less c = omega arith
+loop-less c = c .left2 .ensures
 
 loop-again : tie.Need-loop-again Inv-loop μ-loop
-loop-again c = search needs
+loop-again c =
+    let kept = c .before .before .before .before .before .before .before .before .before .before .feed .kept in
+    let inv = c .before .before .before .before .before .before .before .before .before .before .before .before .before .before .before .before .before .before .loop .inv in
+    (kept .1 .1 .1 .0 ∙ inv .0, kept .1 .1 .1 .1 .0 ∙ inv .1)
+
+ended-requires : tie.Need-ended-requires Inv-loop μ-loop
+ended-requires c κs = tt
 
 same-length : tie.Need-same-length Inv-loop μ-loop
-same-length c = search needs
+same-length c = c .before .before .before .before .loop .inv .0
 
 same-length-2 : tie.Need-same-length-2 Inv-loop μ-loop
-same-length-2 c = search needs
-
-same-length-3 : tie.Need-same-length-3 Inv-loop μ-loop
-same-length-3 c = search needs
-
-same-length-4 : tie.Need-same-length-4 Inv-loop μ-loop
-same-length-4 c = search needs
-
-same-length-5 : tie.Need-same-length-5 Inv-loop μ-loop
-same-length-5 c = search needs
-
-same-length-6 : tie.Need-same-length-6 Inv-loop μ-loop
-same-length-6 c = search needs
-
-same-length-7 : tie.Need-same-length-7 Inv-loop μ-loop
-same-length-7 c = search needs
-
-same-length-8 : tie.Need-same-length-8 Inv-loop μ-loop
-same-length-8 c = search needs
+same-length-2 c = c .before .before .before .before .loop .inv .1 ∙ c .before .before .before .before .before .before .before .before .before .before .begun .kept .1 .1 .1 .0
 
 returns : tie.Need-returns Inv-loop μ-loop
-returns c = search needs
-
-same-length-9 : tie.Need-same-length-9 Inv-loop μ-loop
-same-length-9 c = search needs
-
-same-length-10 : tie.Need-same-length-10 Inv-loop μ-loop
-same-length-10 c = search needs
-
-same-length-11 : tie.Need-same-length-11 Inv-loop μ-loop
-same-length-11 c = search needs
-
-same-length-12 : tie.Need-same-length-12 Inv-loop μ-loop
-same-length-12 c = search needs
-
-same-length-13 : tie.Need-same-length-13 Inv-loop μ-loop
-same-length-13 c = search needs
-
-same-length-14 : tie.Need-same-length-14 Inv-loop μ-loop
-same-length-14 c = search needs
-
-same-length-15 : tie.Need-same-length-15 Inv-loop μ-loop
-same-length-15 c = search needs
-
-same-length-16 : tie.Need-same-length-16 Inv-loop μ-loop
-same-length-16 c = search needs
-
-returns-2 : tie.Need-returns-2 Inv-loop μ-loop
-returns-2 c = search needs
+returns c = tt
 
 pub run-spec : {M : Type 1} → statement M
 run-spec =
@@ -89,26 +64,17 @@ run-spec =
     (tie.spec
     Inv-loop
     μ-loop
+    begun-requires
+    opened-requires
+    left-requires
     loop-holds
-    turn-requires
-    sub-turns
+    feed-requires
+    count-requires
+    answered-requires
+    left-requires-2
     loop-less
     loop-again
+    ended-requires
     same-length
     same-length-2
-    same-length-3
-    same-length-4
-    same-length-5
-    same-length-6
-    same-length-7
-    same-length-8
-    returns
-    same-length-9
-    same-length-10
-    same-length-11
-    same-length-12
-    same-length-13
-    same-length-14
-    same-length-15
-    same-length-16
-    returns-2)
+    returns)

@@ -1,10 +1,10 @@
--- `wheel::arguments::value` is safe and ends: the measure is what is left of the text. Assumes nothing.
+-- `port::arguments::value` is safe and ends: the measure is what is left of the text. Assumes nothing.
 use Prim.Native.Nat.{_-_}
 use lib.ListN.{length}
 use borrow.Author.Needs.{needs}
 use native.Mathlib.Omega.{arith}
-use Rattle.wheel.proofs.arguments.value.Statement.{statement}
-use Rattle.wheel.proofs.arguments.value.Tie as tie
+use Rattle.port.proofs.arguments.value.Statement.{statement}
+use Rattle.port.proofs.arguments.value.Tie as tie
 
 abbrev Inv-loop : tie.InvT-loop
 Inv-loop text from is-hex value₀ i₀ value i = Unit {0}

@@ -1,13 +1,9 @@
 // The program's arguments: a unit address and a size of FRAM, each in decimal, or in hexadecimal after 0x.
 
-// What a word stands for that is no number, or a larger one than any that is asked for.
-pub const BAD: u64 = 0xffff_ffff;
+ghost use Prim.Native.Nat.{_≤_};
 
-// The numbers that were given, or those that are taken where none was: BAD for a word that is no number.
-pub struct Wanted {
-    pub address: u64,
-    pub fram: u64,
-}
+// What a word stands for that is no number, or a larger one than any that is asked for.
+const BAD: u64 = 0xffff_ffff;
 
 // What a digit counts, and 16 for a byte that is none.
 fn digit(byte: u8) -> u8 {
@@ -72,9 +68,36 @@ fn argument(place: usize, otherwise: u64) -> u64 {
     number(&text[..length])
 }
 
-pub fn taken() -> Wanted {
-    Wanted {
-        address: argument(1, 0x41),
-        fram: argument(2, 65_536),
+// The unit address that was asked for, and 0 where no unit can have it.
+pub fn address() -> u8 {
+    let number = argument(1, 0x41);
+    if number > 255 {
+        return 0;
     }
+    if number == 0xc0 || number == 0xdb {
+        return 0;
+    }
+    number as u8
+}
+
+// The size of FRAM that was asked for, and 0 where FRAM cannot have it.
+pub fn size() -> usize
+    ensures { λ r. ⌜ r ≤ 262144 ⌝ }
+{
+    let number = argument(2, 65_536);
+    if number > 262_144 {
+        return 0;
+    }
+    if number % 256 > 0 {
+        return 0;
+    }
+    number as usize
+}
+
+// Whether the first argument asks for help.
+pub fn is_help() -> bool {
+    let mut text = io::buffer();
+    let length = os::arg(1, &mut text);
+    let word = &text[..length];
+    check::same(word, b"--help") || check::same(word, b"-h")
 }

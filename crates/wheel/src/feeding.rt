@@ -1,0 +1,57 @@
+// The unit, lent its memory.
+use board::converting::answer_number;
+use board::converting::sent_by;
+use unit::Stepped;
+use unit::Unit;
+
+// The unit after a call, the number of the answer, and how many bytes of a reply are to be sent.
+pub struct Fed {
+    pub unit: Unit,
+    pub number: u8,
+    pub sent: usize,
+}
+
+fn fed_by(stepped: Stepped) -> Fed {
+    let unit = stepped.unit;
+    let answer = stepped.answer;
+    Fed {
+        unit,
+        number: answer_number(answer),
+        sent: sent_by(answer) as usize,
+    }
+}
+
+// Sets a unit up.
+pub fn begun(
+    address: u8,
+    edac: &[u8; 1536],
+    fram: &[u8],
+    sums: &mut [u16],
+    diagnostics: &[u32; 31],
+    message: &[u8; 1033],
+    reply: &[u8; 2068],
+) -> Fed {
+    fed_by(unit::set_up(address, edac, fram, sums, diagnostics, message, reply))
+}
+
+// Feeds the unit one byte.
+pub fn feed(
+    held: Unit,
+    byte: u8,
+    edac: &mut [u8; 1536],
+    fram: &mut [u8],
+    sums: &mut [u16],
+    diagnostics: &mut [u32; 31],
+    message: &mut [u8; 1033],
+    reply: &mut [u8; 2068],
+) -> Fed {
+    fed_by(unit::step(held, byte, edac, fram, sums, diagnostics, message, reply))
+}
+
+// One more answer of its number.
+pub fn count(tally: &mut [u64; 27], number: u8) {
+    let i = number as usize;
+    if i < 27 {
+        tally[i] = std::num::wrapping_add_u64(tally[i], 1);
+    }
+}
