@@ -74,10 +74,10 @@ pub fn address() -> u8 {
     if number > 255 {
         return 0;
     }
-    if number == 0xc0 || number == 0xdb {
-        return 0;
+    match number {
+        0xc0 | 0xdb => 0,
+        _ => number as u8,
     }
-    number as u8
 }
 
 // The size of FRAM that was asked for, and 0 where FRAM cannot have it.

@@ -6,30 +6,17 @@ fn said(words: &[u8]) {
     io::write_all(STDERR_FILENO, words);
 }
 
-fn helped(line: &[u8]) {
-    io::write_all(STDOUT_FILENO, line);
-}
-
-fn what_it_does() {
-    helped(b"usage: wheel [ADDRESS [FRAM]]\n");
-    helped(
-        b"The command unit of a reaction wheel: bytes of the line on standard input, replies on standard output.\n",
-    );
-    helped(
-        b"At the end it says on standard error how often each answer came, which diagnostics moved, and what was written.\n",
-    );
-}
-
-fn what_it_takes() {
-    helped(b"  ADDRESS  its address, 1 to 255 but not 0xC0 or 0xDB; else 0x41\n");
-    helped(b"  FRAM     bytes of FRAM, a multiple of 256 from 256 to 262144; else 65536\n");
-    helped(b"Both are decimal, or hexadecimal after 0x.\n");
-}
-
 pub fn help() {
-    what_it_does();
-    what_it_takes();
-    helped(b"A PING and its reply: printf '\\xc0\\x41\\x11\\x80\\xd8\\x6d\\xc0' | ./run | xxd\n");
+    io::write_all(
+        STDOUT_FILENO,
+        b"usage: wheel [ADDRESS [FRAM]]\n\
+        A reaction wheel's command unit: the line's bytes on standard input, its replies on standard output, and at the end on\n\
+        standard error how often each answer came, which diagnostics moved, and what was written.\n\
+        \x20 ADDRESS  1 to 255, but not 0xC0 or 0xDB; 0x41 if there is none\n\
+        \x20 FRAM     its bytes, a multiple of 256 from 256 to 262144; 65536 if there is none\n\
+        Both are decimal, or hexadecimal after 0x. A PING and its reply:\n\
+        \x20 printf '\\xc0\\x41\\x11\\x80\\xd8\\x6d\\xc0' | ./run | xxd\n",
+    );
 }
 
 pub fn usage() {
