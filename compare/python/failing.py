@@ -5,6 +5,7 @@ library."""
 import fcntl
 import os
 import platform
+import resource
 import subprocess
 import sys
 import tempfile
@@ -29,17 +30,30 @@ def same(name, came, due):
         sys.exit(f"BAD {name}:\n{came}\nand not\n{due}")
 
 
+def ended(name, stdin, stdout, environment=None):
+    """Runs the wheel, which has to end by itself though its input stays open, and gives what it said. It may not write more
+    than a little to a file, so that one that never stops talking is stopped."""
+    with tempfile.TemporaryFile() as words:
+        process = subprocess.Popen(
+            wheel,
+            stdin=stdin,
+            stdout=stdout,
+            stderr=words,
+            restore_signals=False,
+            env={**os.environ, **(environment or {})},
+            preexec_fn=lambda: resource.setrlimit(resource.RLIMIT_FSIZE, (1 << 20, 1 << 20)),
+        )
+        try:
+            process.wait(timeout=60)
+        except subprocess.TimeoutExpired:
+            process.kill()
+            sys.exit(f"BAD {name}: the wheel did not end")
+        words.seek(0)
+        return words.read(10_000).decode()
+
+
 def run(name, due, stdin, stdout, environment=None):
-    """Runs the wheel, which has to end by itself: what is sent to it stays open."""
-    process = subprocess.Popen(
-        wheel, stdin=stdin, stdout=stdout, stderr=subprocess.PIPE, restore_signals=False, env={**os.environ, **(environment or {})}
-    )
-    try:
-        came = process.communicate(timeout=60)[1].decode()
-    except subprocess.TimeoutExpired:
-        process.kill()
-        sys.exit(f"BAD {name}: the wheel did not end")
-    same(name, came, due)
+    same(name, ended(name, stdin, stdout, environment), due)
 
 
 def pipe(text=b"", size=None):
@@ -70,8 +84,7 @@ def full():
         run("a full device and no reply", said(0, 0, 0), file_of(b""), out)
     # Several times more replies than are held: the wheel ends at the first write that fails, in the midst of a read.
     with open("/dev/full", "wb") as out:
-        process = subprocess.run(wheel, stdin=file_of(MANY * 50), stdout=out, stderr=subprocess.PIPE, timeout=60)
-    lines = process.stderr.decode().split("\n")
+        lines = ended("a full device, many replies", file_of(MANY * 50), out).split("\n")
     same("a full device, many replies: failures", [line for line in lines if line.startswith("wheel:")], [failure])
     same("a full device, many replies: written", lines[-3:], ["replies written: 0", "bytes written: 0", ""])
 
