@@ -24,7 +24,7 @@ pub struct Flow {
     pub is_open: bool,
 }
 
-fn fresh() -> Flow {
+pub fn fresh() -> Flow {
     Flow {
         byte: 0,
         next: 0,
@@ -176,11 +176,6 @@ fn filled(flow: Flow, buffer: &mut Buffer) -> Flow {
         turns -= 1;
     }
     taken(now, buffer)
-}
-
-// A flow with its first byte.
-pub fn opened(buffer: &mut Buffer) -> Flow {
-    filled(fresh(), buffer)
 }
 
 // The flow with its next byte, after a reply of so many bytes was put behind what waits.

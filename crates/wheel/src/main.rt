@@ -33,9 +33,14 @@ fn run(
     let mut buffer = [0u8; 131072];
     let mut tally = [0u64; 27];
     let mut fed = begun(address, edac, fram, sums, diagnostics, message, &reply);
-    let mut flow = flow::opened(&mut buffer);
-    let mut turns = left(u64::MAX, flow.is_open);
-    while turns > 0 {
+    let mut flow = flow::fresh();
+    let mut turns = u64::MAX;
+    loop {
+        flow = flow::answered(flow, fed.sent, &reply, &mut buffer);
+        turns = left(turns, flow.is_open);
+        if turns == 0 {
+            break;
+        }
         fed = feed(
             fed.unit,
             flow.byte,
@@ -47,8 +52,6 @@ fn run(
             &mut reply,
         );
         count(&mut tally, fed.number);
-        flow = flow::answered(flow, fed.sent, &reply, &mut buffer);
-        turns = left(turns, flow.is_open);
     }
     report::ended(&tally, diagnostics, flow.bytes, flow.fends);
 }
