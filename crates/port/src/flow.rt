@@ -12,16 +12,17 @@ const HALF: usize = 65_536;
 const LAST: usize = 129_004;
 
 // The byte to be fed, where the next one stands and where those that were read end, from where to where bytes wait to be
-// written, how many bytes were written and how many of these were FEND, and whether input and output are still there.
+// written, how many bytes were written and how many of these were FEND, and 1 while input and output are still there, then 0.
+// Every field has 64 bits, so that a copy has no gaps: on the way through a loop those cost more than all the rest.
 pub struct Flow {
-    pub byte: u8,
+    pub byte: u64,
     pub next: usize,
     pub end: usize,
     pub from: usize,
     pub to: usize,
     pub bytes: u64,
     pub fends: u64,
-    pub is_open: bool,
+    pub open: u64,
 }
 
 pub fn fresh() -> Flow {
@@ -33,13 +34,13 @@ pub fn fresh() -> Flow {
         to: HALF,
         bytes: 0,
         fends: 0,
-        is_open: true,
+        open: 1,
     }
 }
 
 fn closed(flow: Flow) -> Flow {
     let mut now = flow;
-    now.is_open = false;
+    now.open = 0;
     now
 }
 
@@ -122,7 +123,7 @@ fn read_once(flow: Flow, buffer: &mut [u8]) -> Flow {
 
 // Whether the bytes of the last read are used up, or the next reply might find no room.
 fn is_wanting(flow: Flow) -> bool {
-    flow.is_open && (flow.next >= flow.end || flow.to > LAST)
+    flow.open > 0 && (flow.next >= flow.end || flow.to > LAST)
 }
 
 // One call of the system: a write where bytes wait, else a read.
@@ -133,6 +134,15 @@ fn moved(flow: Flow, buffer: &mut Buffer) -> Flow {
     read_once(flow, buffer)
 }
 
+fn wide(byte: u8) -> u64 {
+    byte as u64
+}
+
+// The byte to be fed.
+pub fn byte(flow: Flow) -> u8 {
+    (flow.byte % 256) as u8
+}
+
 // The next byte that was read.
 fn taken(flow: Flow, buffer: &Buffer) -> Flow {
     let at = flow.next;
@@ -140,7 +150,7 @@ fn taken(flow: Flow, buffer: &Buffer) -> Flow {
         return closed(flow);
     }
     let mut now = flow;
-    now.byte = buffer[at];
+    now.byte = wide(buffer[at]);
     now.next = at + 1;
     now
 }

@@ -13,11 +13,11 @@ ghost use Prim.Native.Nat.{_<_, _≤_};
 
 // How many turns are left: none once input or output is at its end. A proved loop has to end, and nothing says that the input
 // does: the turns count down from a number that no run uses up.
-fn left(turns: u64, is_open: bool) -> u64
+fn left(turns: u64, open: u64) -> u64
     requires { ⌜ 0 < turns ⌝ }
     ensures { λ r. ⌜ r < turns ⌝ }
 {
-    if is_open { turns - 1 } else { 0 }
+    if open > 0 { turns - 1 } else { 0 }
 }
 
 // Sets a unit up and feeds it byte by byte to the end of the input.
@@ -37,13 +37,14 @@ fn run(
     let mut turns = u64::MAX;
     loop {
         flow = flow::answered(flow, fed.sent, &reply, &mut buffer);
-        turns = left(turns, flow.is_open);
+        turns = left(turns, flow.open);
         if turns == 0 {
             break;
         }
+        let byte = flow::byte(flow);
         fed = feed(
             fed.unit,
-            flow.byte,
+            byte,
             edac,
             fram,
             sums,

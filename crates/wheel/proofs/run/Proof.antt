@@ -30,6 +30,9 @@ answered-requires c κs = tt
 left-requires : tie.Need-left-requires Inv-loop μ-loop
 left-requires c κs = c .before .before .before .loop .inv .0
 
+byte-requires : tie.Need-byte-requires Inv-loop μ-loop
+byte-requires c κs = tt
+
 feed-requires : tie.Need-feed-requires Inv-loop μ-loop
 feed-requires c κs = tt
 
@@ -37,13 +40,13 @@ count-requires : tie.Need-count-requires Inv-loop μ-loop
 count-requires c κs = tt
 
 loop-less : tie.Need-loop-less Inv-loop μ-loop
-loop-less c = c .before .before .before .before .before .before .before .before .before .before .before .before .before .before .left .ensures
+loop-less c = c .before .before .before .before .before .before .before .before .before .before .before .before .before .before .before .left .ensures
 
 loop-again : tie.Need-loop-again Inv-loop μ-loop
 loop-again c =
-    let more = c .before .before .before .before .before .before .before .before .before .before .before .before .before .if1 .left in
+    let more = c .before .before .before .before .before .before .before .before .before .before .before .before .before .before .if1 .left in
     let kept = c .before .before .before .before .before .before .feed .kept in
-    let inv = c .before .before .before .before .before .before .before .before .before .before .before .before .before .before .before .before .before .before .loop .inv in
+    let inv = c .before .before .before .before .before .before .before .before .before .before .before .before .before .before .before .before .before .before .before .loop .inv in
     (omega (arith, more), kept .1 .1 .1 .0 ∙ inv .1, kept .1 .1 .1 .1 .0 ∙ inv .2)
 
 ended-requires : tie.Need-ended-requires Inv-loop μ-loop
@@ -69,6 +72,7 @@ run-spec =
     loop-holds
     answered-requires
     left-requires
+    byte-requires
     feed-requires
     count-requires
     loop-less
