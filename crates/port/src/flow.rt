@@ -3,6 +3,7 @@
 use crate::report;
 use libc::STDIN_FILENO;
 use libc::STDOUT_FILENO;
+ghost use Prim.Native.Nat.{_<_};
 
 pub type Buffer = [u8; 131072];
 
@@ -191,4 +192,13 @@ fn filled(flow: Flow, buffer: &mut Buffer) -> Flow {
 // The flow with its next byte, after a reply of so many bytes was put behind what waits.
 pub fn answered(flow: Flow, sent: usize, reply: &[u8; 2068], buffer: &mut Buffer) -> Flow {
     filled(queued(flow, sent, reply, buffer), buffer)
+}
+
+// How many turns are left: none once input or output is at its end. A proved loop has to end, and nothing says that the input
+// does: the turns count down from a number that no run uses up.
+pub fn left(turns: u64, open: u64) -> u64
+    requires { ⌜ 0 < turns ⌝ }
+    ensures { λ r. ⌜ r < turns ⌝ }
+{
+    if open > 0 { turns - 1 } else { 0 }
 }

@@ -98,3 +98,11 @@ pub fn ended(tally: &[u64; 27], values: &[u32; 31], bytes: u64, fends: u64) {
     line(b"replies written: ", fends / 2);
     line(b"bytes written: ", bytes);
 }
+
+// One more answer of its number.
+pub fn count(tally: &mut [u64; 27], number: u8) {
+    let i = number as usize;
+    if i < 27 {
+        tally[i] = std::num::wrapping_add_u64(tally[i], 1);
+    }
+}

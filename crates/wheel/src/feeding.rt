@@ -47,11 +47,3 @@ pub fn feed(
 ) -> Fed {
     fed_by(unit::step(held, byte, edac, fram, sums, diagnostics, message, reply))
 }
-
-// One more answer of its number.
-pub fn count(tally: &mut [u64; 27], number: u8) {
-    let i = number as usize;
-    if i < 27 {
-        tally[i] = std::num::wrapping_add_u64(tally[i], 1);
-    }
-}

@@ -4,21 +4,13 @@
 mod feeding;
 
 use feeding::begun;
-use feeding::count;
 use feeding::feed;
 use port::arguments;
 use port::flow;
+use port::flow::left;
 use port::report;
-ghost use Prim.Native.Nat.{_<_, _≤_};
-
-// How many turns are left: none once input or output is at its end. A proved loop has to end, and nothing says that the input
-// does: the turns count down from a number that no run uses up.
-fn left(turns: u64, open: u64) -> u64
-    requires { ⌜ 0 < turns ⌝ }
-    ensures { λ r. ⌜ r < turns ⌝ }
-{
-    if open > 0 { turns - 1 } else { 0 }
-}
+use port::report::count;
+ghost use Prim.Native.Nat.{_≤_};
 
 // Sets a unit up and feeds it byte by byte to the end of the input.
 fn run(
