@@ -6,23 +6,22 @@ use Prim.Native.Nat.{ℕ}
 use Rattle.line.specs.Packing.{Packing}
 use Rattle.line.specs.declared.receiver.Place.{Place}
 use Rattle.line.specs.declared.receiver.Place.the-variants.{Fresh, Run, Escape, Fault}
-use Rattle.line.specs.declared.receiver.Receiver.{Receiver}
-use Rattle.command.specs.declared.Mode.{Mode}
-use Rattle.command.specs.declared.Mode.the-variants.{Bootloader, Application}
+use Rattle.carrying.specs.declared.Mode.{Mode}
+use Rattle.carrying.specs.declared.Mode.the-variants.{Bootloader, Application}
 use Rattle.unit.specs.World.{World, Outcome}
-use Rattle.unit.specs.declared.Unit.{Unit}
+use Rattle.judging.specs.declared.Unit.{Unit}
 use Rattle.board.specs.declared.WheelStepped.{WheelStepped}
 use Rattle.board.specs.declared.WheelPacked.{WheelPacked}
-use Rattle.board.specs.Records.{modeIn, modeOut, placeIn, placeOut, unitIn, unitOut, Left, left, leftBy, packingBy}
+use Rattle.board.specs.Records.{modeIn, modeOut, placeIn, placeOut, unitIn, unitOut, Returned, returned, returnedBy, packingBy}
 
 pub a-call-allows-one-outcome
     : (o : Outcome) (r s : WheelStepped) (v w : World)
-    → left r v ≡ leftBy o
-    → left s w ≡ leftBy o
+    → returned r v ≡ returnedBy o
+    → returned s w ≡ returnedBy o
     → (r ≡ s) × (v ≡ w)
 a-call-allows-one-outcome o r s v w a b =
     let same = a ∙ sym b in
-    (ap (λ (l : Left). l .stepped) same, ap (λ (l : Left). l .world) same)
+    (ap (λ (l : Returned). l .stepped) same, ap (λ (l : Returned). l .world) same)
 
 pub packing-allows-one-outcome
     : (p : Packing) (r s : WheelPacked) (l m : List ℕ)

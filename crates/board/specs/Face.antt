@@ -1,7 +1,7 @@
 -- How C's values stand for those of the rooms below. Assumes nothing.
 use mathlib.Core.Option.{Option, none, some}
 use Rattle.crc.specs.declared.Part.{Part}
-use Rattle.crc.specs.Joining.{Answer}
+use Rattle.crc.specs.Joining.{Joining}
 use Rattle.board.specs.declared.WheelPart.{WheelPart}
 use Rattle.board.specs.declared.WheelJoined.{WheelJoined}
 
@@ -15,5 +15,5 @@ partOut none = record { sum = 0; len = 0 }
 partOut (some p) = record { sum = p .sum; len = p .len }
 
 -- An answer of joining as it goes to C: its number, and the part.
-abbrev pub joinedOut : Answer → WheelJoined
+abbrev pub joinedOut : Joining → WheelJoined
 joinedOut a = record { answer = a .number; part = partOut (a .part) }

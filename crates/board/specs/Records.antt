@@ -7,12 +7,12 @@ use lib.Dec.{eqb}
 use Rattle.line.specs.Packing.{Packing}
 use Rattle.line.specs.declared.receiver.Place.{Place}
 use Rattle.line.specs.declared.receiver.Place.the-variants.{Fresh, Run, Escape, Fault}
-use Rattle.command.specs.declared.Mode.{Mode}
-use Rattle.command.specs.declared.Mode.the-variants.{Bootloader, Application}
-use Rattle.unit.specs.Answers.{numberOf, sentOf}
+use Rattle.carrying.specs.declared.Mode.{Mode}
+use Rattle.carrying.specs.declared.Mode.the-variants.{Bootloader, Application}
+use Rattle.answer.specs.Answers.{numberOf, sentOf}
 use Rattle.unit.specs.World.{World, Outcome}
-use Rattle.unit.specs.declared.Unit.{Unit}
-use Rattle.unit.specs.declared.Answer.{Answer}
+use Rattle.judging.specs.declared.Unit.{Unit}
+use Rattle.answer.specs.declared.Answer.{Answer}
 use Rattle.board.specs.declared.WheelUnit.{WheelUnit}
 use Rattle.board.specs.declared.WheelStepped.{WheelStepped}
 use Rattle.board.specs.declared.WheelPacked.{WheelPacked}
@@ -58,15 +58,15 @@ abbrev pub steppedOut : Unit → Answer → WheelStepped
 steppedOut u answer = record { unit = unitOut u; sent = sentOf answer; answer = numberOf answer }
 
 -- What a call leaves, as C has it: what it gives back, and all that was lent.
-pub record Left : Type 0 where
+pub record Returned : Type 0 where
   pub stepped : WheelStepped
   pub world : World
 
-abbrev pub left : WheelStepped → World → Left
-left r w = record { stepped = r; world = w }
+abbrev pub returned : WheelStepped → World → Returned
+returned r w = record { stepped = r; world = w }
 
-abbrev pub leftBy : Outcome → Left
-leftBy o = left (steppedOut (o .unit) (o .answer)) (o .world)
+abbrev pub returnedBy : Outcome → Returned
+returnedBy o = returned (steppedOut (o .unit) (o .answer)) (o .world)
 
 -- What packing gives back, with the reply buffer as it leaves it.
 abbrev pub packingBy : WheelPacked → List ℕ → Packing

@@ -1,14 +1,14 @@
 // C's numbers and records as the unit's, and back.
 use crate::WheelStepped;
 use crate::WheelUnit;
-use command::Mode;
+use answer::number_of;
+use answer::sent_of;
+use carrying::Mode;
 use line::receiver::Place;
 use line::receiver::Receiver;
-use unit::Answer;
 use unit::Stepped;
 use unit::Unit;
 ghost use mathlib.Core.Path.{_≡_};
-ghost use Rattle.unit.specs.Answers.{numberOf, sentOf};
 ghost use Rattle.board.specs.Records.{modeIn, modeOut, placeIn, placeOut, unitIn, unitOut, steppedOut};
 
 fn mode_in(number: u8) -> Mode
@@ -56,56 +56,6 @@ fn place_out(place: Place) -> u8
     }
 }
 
-pub fn answer_number(answer: Answer) -> u8
-    ensures { λ r. ⌜ r ≡ numberOf answer ⌝ }
-{
-    match answer {
-        Answer::Taken => 0,
-        Answer::Acked(_) => 1,
-        Answer::Done => 2,
-        Answer::Nacked(_) => 3,
-        Answer::Refused => 4,
-        Answer::Framing => 5,
-        Answer::Runt => 6,
-        Answer::Oversize => 7,
-        Answer::BadCrc => 8,
-        Answer::Elsewhere => 9,
-        Answer::Unfitted => 10,
-        Answer::BadAddress => 20,
-        Answer::BadEdac => 21,
-        Answer::BadFram => 22,
-        Answer::BadSums => 23,
-        Answer::BadDiagnostics => 24,
-        Answer::BadBuffers => 25,
-        Answer::BadCount => 26,
-    }
-}
-
-pub fn sent_by(answer: Answer) -> u64
-    ensures { λ r. ⌜ r ≡ sentOf answer ⌝ }
-{
-    match answer {
-        Answer::Acked(n) => n as u64,
-        Answer::Nacked(n) => n as u64,
-        Answer::Taken => 0,
-        Answer::Done => 0,
-        Answer::Refused => 0,
-        Answer::Framing => 0,
-        Answer::Runt => 0,
-        Answer::Oversize => 0,
-        Answer::BadCrc => 0,
-        Answer::Elsewhere => 0,
-        Answer::Unfitted => 0,
-        Answer::BadAddress => 0,
-        Answer::BadEdac => 0,
-        Answer::BadFram => 0,
-        Answer::BadSums => 0,
-        Answer::BadDiagnostics => 0,
-        Answer::BadBuffers => 0,
-        Answer::BadCount => 0,
-    }
-}
-
 pub fn unit_in(lent: WheelUnit) -> Unit
     ensures { λ r. ⌜ r ≡ unitIn lent ⌝ }
 {
@@ -145,7 +95,7 @@ pub fn stepped_out(stepped: Stepped) -> WheelStepped
     let record = unit_out(held);
     WheelStepped {
         unit: record,
-        sent: sent_by(answer),
-        answer: answer_number(answer),
+        sent: sent_of(answer) as u64,
+        answer: number_of(answer),
     }
 }

@@ -9,7 +9,7 @@ ghost use Rattle.board.specs.Face.{partIn, joinedOut};
 ghost use Rattle.line.specs.Packing.{packOf};
 ghost use Rattle.unit.specs.World.{world};
 ghost use Rattle.unit.specs.Steps.{setUpOf, stepOf};
-ghost use Rattle.board.specs.Records.{unitIn, left, leftBy, packingBy};
+ghost use Rattle.board.specs.Records.{unitIn, returned, returnedBy, packingBy};
 use converting::stepped_out;
 use converting::unit_in;
 use crc::Joined;
@@ -23,7 +23,7 @@ pub struct WheelPart {
     pub len: u32,
 }
 
-// The paper's number of joining, and the part, which is all zeros where there is none.
+// 01's number of joining, and the part, which is all zeros where there is none.
 #[repr(C)]
 pub struct WheelJoined {
     pub answer: u8,
@@ -40,7 +40,7 @@ pub struct WheelUnit {
     pub place: u8,
 }
 
-// The unit's record afterwards, how many bytes of the reply buffer are to be sent, and the paper's number of the answer.
+// The unit's record afterwards, how many bytes of the reply buffer are to be sent, and 01's number of the answer.
 #[repr(C)]
 pub struct WheelStepped {
     pub unit: WheelUnit,
@@ -48,7 +48,7 @@ pub struct WheelStepped {
     pub answer: u8,
 }
 
-// How many bytes of the reply buffer are packed, and the paper's number of packing.
+// How many bytes of the reply buffer are packed, and 01's number of packing.
 #[repr(C)]
 pub struct WheelPacked {
     pub sent: u64,
@@ -107,8 +107,8 @@ pub extern "C" fn wheel_set_up(
     message: &[u8],
     reply: &[u8],
 ) -> WheelStepped
-    ensures { λ r. ⌜ left r (world (now (edac .entry)) (now (fram .entry)) (now (sums .exit)) (now (diagnostics .entry)) (now (message .entry)) (now (reply .entry)))
-        ≡ leftBy (setUpOf address (world (now (edac .entry)) (now (fram .entry)) (now (sums .entry)) (now (diagnostics .entry)) (now (message .entry)) (now (reply .entry)))) ⌝ }
+    ensures { λ r. ⌜ returned r (world (now (edac .entry)) (now (fram .entry)) (now (sums .exit)) (now (diagnostics .entry)) (now (message .entry)) (now (reply .entry)))
+        ≡ returnedBy (setUpOf address (world (now (edac .entry)) (now (fram .entry)) (now (sums .entry)) (now (diagnostics .entry)) (now (message .entry)) (now (reply .entry)))) ⌝ }
 {
     stepped_out(unit::set_up(address, edac, fram, sums, diagnostics, message, reply))
 }
@@ -124,8 +124,8 @@ pub extern "C" fn wheel_step(
     message: &mut [u8],
     reply: &mut [u8],
 ) -> WheelStepped
-    ensures { λ r. ⌜ left r (world (now (edac .exit)) (now (fram .exit)) (now (sums .exit)) (now (diagnostics .exit)) (now (message .exit)) (now (reply .exit)))
-        ≡ leftBy (stepOf (unitIn unit) byte (world (now (edac .entry)) (now (fram .entry)) (now (sums .entry)) (now (diagnostics .entry)) (now (message .entry)) (now (reply .entry)))) ⌝ }
+    ensures { λ r. ⌜ returned r (world (now (edac .exit)) (now (fram .exit)) (now (sums .exit)) (now (diagnostics .exit)) (now (message .exit)) (now (reply .exit)))
+        ≡ returnedBy (stepOf (unitIn unit) byte (world (now (edac .entry)) (now (fram .entry)) (now (sums .entry)) (now (diagnostics .entry)) (now (message .entry)) (now (reply .entry)))) ⌝ }
 {
     stepped_out(unit::step(
         unit_in(unit),

@@ -1,112 +1,97 @@
--- The command that a code names, and what a command on a part of what is held leaves of the whole. Assumes nothing.
-use mathlib.Core.Path.{_≡_, refl, sym, ap, ap₂, _∙_}
-use mathlib.Core.List.{List}
-use Prim.Native.Nat.{ℕ, _≤_, _<_}
+-- The row of the table that a code finds: one law for each way through `carry_out`. Assumes nothing.
+use mathlib.Core.Path.{_≡_, refl, ap, ap₂, _∙_}
+use mathlib.Core.Bool.{Bool, true, false, cond}
+use mathlib.Core.List.{List, [], _∷_}
+use Prim.Native.Nat.{ℕ, _≤_}
 use native.Mathlib.Omega.{arith}
-use borrow.Author.Tests.{eq-eqb, ne-eqb, lt-ltb, le-ltb}
-use Rattle.memory.specs.Fram.{Kept}
-use Rattle.command.specs.declared.Mode.{Mode}
-use Rattle.command.specs.declared.Mode.the-variants.{Bootloader, Application}
-use Rattle.command.specs.declared.Answer.{Answer}
-use Rattle.command.specs.Outcome.{Outcome, done, refused, unfitted, Left, left, leaves}
-use Rattle.command.specs.Ping.{pingOf}
-use Rattle.command.specs.Init.{initOf}
-use Rattle.command.specs.Peek.{peekOf}
-use Rattle.command.specs.Poke.{pokeOf}
-use Rattle.command.specs.Diagnostic.{diagnosticOf}
-use Rattle.command.specs.Crc.{crcOf}
-use Rattle.command.specs.ReadFile.{readFileOf}
-use Rattle.command.specs.WriteFile.{writeFileOf}
-use Rattle.command.specs.ReadEdac.{readEdacOf}
-use Rattle.command.specs.WriteEdac.{writeEdacOf}
-use Rattle.command.specs.Gather.{gatherOf}
-use Rattle.command.specs.Command.{Held, held, inside, reading, framCommandOf, edacCommandOf, inApplication, commandOf}
+use borrow.Author.Tests.{ne-eqb}
+use lib.Dec.{eqb}
+use Rattle.carrying.specs.declared.Mode.{Mode}
+use Rattle.carrying.specs.declared.Mode.the-variants.{Bootloader, Application}
+use Rattle.carrying.specs.Ending.{Ending, refused}
+use Rattle.carrying.specs.Held.{Held}
+use Rattle.carrying.proofs.Room.{either-way}
+use Rattle.command.specs.Command.{Row, row, table, inMode, foundIn, commandOf}
 
--- what is left of a part, said of the whole
-module _ {M N : Type 0} (whole : M → N) where
-  of-the-whole : Left M → Left N
-  of-the-whole l = left (l .answer) (l .reply) (whole (l .memory))
+-- a row with yes in both modes
+either : (mode : Mode) (n : ℕ) (comes : Ending Held) → inMode mode (row n true true comes) ≡ comes
+either Bootloader n comes = refl
+either Application n comes = refl
 
-  leaves-the-whole : (o : Outcome M) (reply : List ℕ) (before : M) → of-the-whole (leaves o reply before) ≡ leaves (inside whole o) reply (whole before)
-  unfolding of-the-whole
-  leaves-the-whole (done bytes after) reply before = refl
-  leaves-the-whole refused reply before = refl
-  leaves-the-whole unfitted reply before = refl
+-- whichever test is met, it is refused
+all-refused : {A : Type 0} (x : A) (a b c d e : Bool) → cond a x (cond b x (cond c x (cond d x (cond e x x)))) ≡ x
+all-refused x true b c d e = refl
+all-refused x false true c d e = refl
+all-refused x false false true d e = refl
+all-refused x false false false true e = refl
+all-refused x false false false false true = refl
+all-refused x false false false false false = refl
 
-  pub on-a-part : (o : Outcome M) (answer : Answer) (buffer reply : List ℕ) (after before : M) → left answer buffer after ≡ leaves o reply before
-      → left answer buffer (whole after) ≡ leaves (inside whole o) reply (whole before)
-  unfolding of-the-whole
-  on-a-part o answer buffer reply after before e = ap of-the-whole e ∙ leaves-the-whole o reply before
-
--- ---- the codes
-
-module _ (room first code : ℕ) (diagnostics : List ℕ) (memory : Kept) (field : List ℕ) where
-  pub code-of-ping : code ≡ 0x00 → framCommandOf room first code diagnostics memory field ≡ reading memory pingOf
-  unfolding framCommandOf
-  code-of-ping e = ap (λ (n : ℕ). framCommandOf room first n diagnostics memory field) e
-
-  pub code-of-peek : code ≡ 0x02 → framCommandOf room first code diagnostics memory field ≡ reading memory (peekOf room first (memory .fram) field)
-  unfolding framCommandOf
-  code-of-peek e = ap (λ (n : ℕ). framCommandOf room first n diagnostics memory field) e
-
-  pub code-of-poke : code ≡ 0x03 → framCommandOf room first code diagnostics memory field ≡ pokeOf room first memory field
-  unfolding framCommandOf
-  code-of-poke e = ap (λ (n : ℕ). framCommandOf room first n diagnostics memory field) e
-
-  pub code-of-diagnostic : code ≡ 0x04 → framCommandOf room first code diagnostics memory field ≡ reading memory (diagnosticOf room diagnostics field)
-  unfolding framCommandOf
-  code-of-diagnostic e = ap (λ (n : ℕ). framCommandOf room first n diagnostics memory field) e
-
-  pub code-of-crc : code ≡ 0x06 → framCommandOf room first code diagnostics memory field ≡ reading memory (crcOf first memory field)
-  unfolding framCommandOf
-  code-of-crc e = ap (λ (n : ℕ). framCommandOf room first n diagnostics memory field) e
-
-  pub code-of-no-fram-command : (code ≡ 0x00 → ⊥) → (code ≡ 0x02 → ⊥) → (code ≡ 0x03 → ⊥) → (code ≡ 0x04 → ⊥) → (code ≡ 0x06 → ⊥)
-      → framCommandOf room first code diagnostics memory field ≡ refused
-  unfolding framCommandOf
-  code-of-no-fram-command a b c d e =
-      simp (ne-eqb code 0x00 a, ne-eqb code 0x02 b, ne-eqb code 0x03 c, ne-eqb code 0x04 d, ne-eqb code 0x06 e)
-
-module _ (room code : ℕ) (edac field : List ℕ) where
-  pub code-of-read-file : code ≡ 0x07 → edacCommandOf room code edac field ≡ reading edac (readFileOf room edac field)
-  unfolding edacCommandOf
-  code-of-read-file e = ap (λ (n : ℕ). edacCommandOf room n edac field) e
-
-  pub code-of-write-file : code ≡ 0x08 → edacCommandOf room code edac field ≡ writeFileOf room edac field
-  unfolding edacCommandOf
-  code-of-write-file e = ap (λ (n : ℕ). edacCommandOf room n edac field) e
-
-  pub code-of-read-edac : code ≡ 0x09 → edacCommandOf room code edac field ≡ reading edac (readEdacOf room edac field)
-  unfolding edacCommandOf
-  code-of-read-edac e = ap (λ (n : ℕ). edacCommandOf room n edac field) e
-
-  pub code-of-write-edac : code ≡ 0x0A → edacCommandOf room code edac field ≡ writeEdacOf room edac field
-  unfolding edacCommandOf
-  code-of-write-edac e = ap (λ (n : ℕ). edacCommandOf room n edac field) e
-
-  pub code-of-gather : code ≡ 0x0B → edacCommandOf room code edac field ≡ reading edac (gatherOf room edac field)
-  unfolding edacCommandOf
-  code-of-gather e = ap (λ (n : ℕ). edacCommandOf room n edac field) e
-
-  pub code-of-no-edac-command : (code ≡ 0x07 → ⊥) → (code ≡ 0x08 → ⊥) → (code ≡ 0x09 → ⊥) → (code ≡ 0x0A → ⊥) → (code ≡ 0x0B → ⊥)
-      → edacCommandOf room code edac field ≡ refused
-  unfolding edacCommandOf
-  code-of-no-edac-command a b c d e =
-      simp (ne-eqb code 0x07 a, ne-eqb code 0x08 b, ne-eqb code 0x09 c, ne-eqb code 0x0A d, ne-eqb code 0x0B e)
-
-module _ (room first code : ℕ) (diagnostics : List ℕ) (mode : Mode) (edac : List ℕ) (memory : Kept) (field : List ℕ) where
-  pub code-of-init : code ≡ 0x01 → commandOf room first code diagnostics (held mode edac memory) field ≡ inside (λ m. held m edac memory) (initOf mode field)
+module _ (room first code : ℕ) (diagnostics : List ℕ) (now : Held) (field : List ℕ) where
+  -- a code that is a row's number comes to what the row has
+  pub in-either-mode : (n : ℕ) (comes : Ending Held) → code ≡ n
+      → foundIn (table room first diagnostics now field) (now .mode) n ≡ inMode (now .mode) (row n true true comes)
+      → commandOf room first code diagnostics now field ≡ comes
   unfolding commandOf
-  code-of-init e = simp (eq-eqb code 0x01 e)
+  in-either-mode n comes e found = ap (foundIn (table room first diagnostics now field) (now .mode)) e ∙ found ∙ either (now .mode) n comes
 
-  pub code-below-files : (code ≡ 0x01 → ⊥) → code < 0x07
-      → commandOf room first code diagnostics (held mode edac memory) field
-      ≡ inside (λ m. held mode edac m) (framCommandOf room first code diagnostics memory field)
+  pub in-application : (n : ℕ) (comes : Ending Held) → code ≡ n → now .mode ≡ Application → foundIn (table room first diagnostics now field) Application n ≡ comes
+      → commandOf room first code diagnostics now field ≡ comes
   unfolding commandOf
-  code-below-files other below = simp (ne-eqb code 0x01 other, lt-ltb code 0x07 below)
+  in-application n comes e mode found = ap₂ (foundIn (table room first diagnostics now field)) mode e ∙ found
 
-  pub code-of-files : (code ≡ 0x01 → ⊥) → 0x07 ≤ code
-      → commandOf room first code diagnostics (held mode edac memory) field
-      ≡ inside (λ e. held mode e memory) (inApplication mode (edacCommandOf room code edac field))
+  -- 0x07 and all below it in the table are refused in bootloader mode
+  pub not-in-bootloader : 0x07 ≤ code → now .mode ≡ Bootloader → commandOf room first code diagnostics now field ≡ refused
   unfolding commandOf
-  code-of-files other above = simp (ne-eqb code 0x01 other, le-ltb code 0x07 above)
+  not-in-bootloader above mode =
+      ap (λ m. foundIn (table room first diagnostics now field) m code) mode
+      ∙ simp (
+        ne-eqb code 0x00 (λ e. omega arith),
+        ne-eqb code 0x01 (λ e. omega arith),
+        ne-eqb code 0x02 (λ e. omega arith),
+        ne-eqb code 0x03 (λ e. omega arith),
+        ne-eqb code 0x04 (λ e. omega arith),
+        ne-eqb code 0x06 (λ e. omega arith),
+      )
+      (all-refused refused (eqb code 0x07) (eqb code 0x08) (eqb code 0x09) (eqb code 0x0A) (eqb code 0x0B))
+
+  -- and so is a code that no row has
+  pub no-such-code : (code ≡ 0x00 → ⊥) → (code ≡ 0x01 → ⊥) → (code ≡ 0x02 → ⊥) → (code ≡ 0x03 → ⊥) → (code ≡ 0x04 → ⊥) → (code ≡ 0x06 → ⊥)
+      → (code ≡ 0x07 → ⊥) → (code ≡ 0x08 → ⊥) → (code ≡ 0x09 → ⊥) → (code ≡ 0x0A → ⊥) → (code ≡ 0x0B → ⊥)
+      → commandOf room first code diagnostics now field ≡ refused
+  unfolding commandOf
+  no-such-code n0 n1 n2 n3 n4 n6 n7 n8 n9 na nb =
+      simp (
+        ne-eqb code 0x00 n0,
+        ne-eqb code 0x01 n1,
+        ne-eqb code 0x02 n2,
+        ne-eqb code 0x03 n3,
+        ne-eqb code 0x04 n4,
+        ne-eqb code 0x06 n6,
+        ne-eqb code 0x07 n7,
+        ne-eqb code 0x08 n8,
+        ne-eqb code 0x09 n9,
+        ne-eqb code 0x0A na,
+        ne-eqb code 0x0B nb,
+      )
+
+-- what holds of a refusal and of what each row comes to holds of every command
+abbrev pub EachRow : (Ending Held → Type 0) → List Row → Type 0
+EachRow P [] = Prim.Unit {0}
+EachRow P (r ∷ rows) = P (r .comes) × EachRow P rows
+
+of-a-row : (P : Ending Held → Type 0) (mode : Mode) (r : Row) → P refused → P (r .comes) → P (inMode mode r)
+of-a-row P Bootloader r otherwise allowed = either-way P (r .bootloader) (r .comes) refused (λ _. allowed) (λ _. otherwise)
+of-a-row P Application r otherwise allowed = either-way P (r .application) (r .comes) refused (λ _. allowed) (λ _. otherwise)
+
+of-any-row : (P : Ending Held → Type 0) (rows : List Row) (mode : Mode) (code : ℕ) → P refused → EachRow P rows → P (foundIn rows mode code)
+of-any-row P [] mode code otherwise each = otherwise
+of-any-row P (r ∷ rows) mode code otherwise each =
+    either-way P (eqb code (r .code)) (inMode mode r) (foundIn rows mode code) (λ _. of-a-row P mode r otherwise (each .0))
+    (λ _. of-any-row P rows mode code otherwise (each .1))
+
+pub of-any-command : (P : Ending Held → Type 0) (room first code : ℕ) (diagnostics : List ℕ) (now : Held) (field : List ℕ) → P refused
+    → EachRow P (table room first diagnostics now field) → P (commandOf room first code diagnostics now field)
+unfolding commandOf
+of-any-command P room first code diagnostics now field otherwise each =
+    of-any-row P (table room first diagnostics now field) (now .mode) code otherwise each

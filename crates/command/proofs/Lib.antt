@@ -1,6 +1,5 @@
-pub mod Examples
-pub mod Writing
-pub mod Lists
+pub mod Channels
 pub mod Ways
 pub mod Codes
+pub mod Room
 pub mod Settled

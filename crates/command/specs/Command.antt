@@ -1,71 +1,61 @@
 -- The command that a code names: 01, "Commands"; ICD 11.4, Table 14. Assumes nothing.
 use Prim.Native.Nat.{ℕ}
-use mathlib.Core.Bool.{cond}
-use mathlib.Core.List.{List}
-use lib.Dec.{eqb, ltb}
-use Rattle.memory.specs.Fram.{Kept}
-use Rattle.command.specs.declared.Mode.{Mode}
-use Rattle.command.specs.declared.Mode.the-variants.{Bootloader, Application}
-use Rattle.command.specs.Outcome.{Outcome, done, refused, unfitted}
+use mathlib.Core.Bool.{Bool, true, false, cond}
+use mathlib.Core.List.{List, [], _∷_}
+use lib.Dec.{eqb}
+use Rattle.carrying.specs.declared.Mode.{Mode}
+use Rattle.carrying.specs.declared.Mode.the-variants.{Bootloader, Application}
+use Rattle.carrying.specs.Ending.{Ending, refused}
+use Rattle.carrying.specs.Held.{Held, reading, onMode, onEdac, onFram}
 use Rattle.command.specs.Ping.{pingOf}
 use Rattle.command.specs.Init.{initOf}
-use Rattle.command.specs.Peek.{peekOf}
-use Rattle.command.specs.Poke.{pokeOf}
+use Rattle.fram_commands.specs.Peek.{peekOf}
+use Rattle.fram_commands.specs.Poke.{pokeOf}
 use Rattle.command.specs.Diagnostic.{diagnosticOf}
-use Rattle.command.specs.Crc.{crcOf}
-use Rattle.command.specs.ReadFile.{readFileOf}
-use Rattle.command.specs.WriteFile.{writeFileOf}
-use Rattle.command.specs.ReadEdac.{readEdacOf}
-use Rattle.command.specs.WriteEdac.{writeEdacOf}
-use Rattle.command.specs.Gather.{gatherOf}
+use Rattle.fram_commands.specs.Crc.{crcOf}
+use Rattle.file_commands.specs.ReadFile.{readFileOf}
+use Rattle.file_commands.specs.WriteFile.{writeFileOf}
+use Rattle.edac_commands.specs.ReadEdac.{readEdacOf}
+use Rattle.edac_commands.specs.WriteEdac.{writeEdacOf}
+use Rattle.edac_commands.specs.Gather.{gatherOf}
 
--- What commands can change.
-pub record Held : Type 0 where
-  pub mode : Mode
-  pub edac : List ℕ
-  pub memory : Kept
+-- A row of Table 14: the code, whether the command is carried out in bootloader and in application mode, and what it comes to.
+pub record Row : Type 0 where
+  pub code : ℕ
+  pub bootloader : Bool
+  pub application : Bool
+  pub comes : Ending Held
 
-abbrev pub held : Mode → List ℕ → Kept → Held
-held mode edac memory = record { mode = mode; edac = edac; memory = memory }
+abbrev pub row : ℕ → Bool → Bool → Ending Held → Row
+row code bootloader application comes =
+    record { code = code; bootloader = bootloader; application = application; comes = comes }
 
--- The outcome of a command that changes a part of what is held, as one of the whole.
-abbrev pub inside : {M N : Type 0} → (M → N) → Outcome M → Outcome N
-inside whole (done reply after) = done reply (whole after)
-inside whole refused = refused
-inside whole unfitted = unfitted
+-- `room` is the longest data field of a reply (1,028), `first` the address of the first byte of FRAM (0x20040000).
+abbrev pub table : ℕ → ℕ → List ℕ → Held → List ℕ → List Row
+table room first diagnostics now field =
+    row 0x00 true true (reading now pingOf)
+    ∷ row 0x01 true true (onMode now (initOf (now .mode) field))
+    ∷ row 0x02 true true (reading now (peekOf room first (now .memory .fram) field))
+    ∷ row 0x03 true true (onFram now (pokeOf room first (now .memory) field))
+    ∷ row 0x04 true true (reading now (diagnosticOf room diagnostics field))
+    ∷ row 0x06 true true (reading now (crcOf first (now .memory) field))
+    ∷ row 0x07 false true (reading now (readFileOf room (now .edac) field))
+    ∷ row 0x08 false true (onEdac now (writeFileOf room (now .edac) field))
+    ∷ row 0x09 false true (reading now (readEdacOf room (now .edac) field))
+    ∷ row 0x0A false true (onEdac now (writeEdacOf room (now .edac) field))
+    ∷ row 0x0B false true (reading now (gatherOf room (now .edac) field))
+    ∷ []
 
--- A command that changes nothing.
-abbrev pub reading : {M : Type 0} → M → Outcome (Unit {0}) → Outcome M
-reading now = inside (λ _. now)
+-- A command is refused in a mode in which its row has no yes.
+abbrev pub inMode : Mode → Row → Ending Held
+inMode Bootloader r = cond (r .bootloader) (r .comes) refused
+inMode Application r = cond (r .application) (r .comes) refused
 
--- The commands on diagnostics and FRAM, in either mode.
-unfoldable pub framCommandOf : ℕ → ℕ → ℕ → List ℕ → Kept → List ℕ → Outcome Kept
-framCommandOf room first code diagnostics memory field =
-    cond (eqb code 0x00) (reading memory pingOf)
-    (cond (eqb code 0x02) (reading memory (peekOf room first (memory .fram) field))
-    (cond (eqb code 0x03) (pokeOf room first memory field)
-    (cond (eqb code 0x04) (reading memory (diagnosticOf room diagnostics field))
-    (cond (eqb code 0x06) (reading memory (crcOf first memory field)) refused))))
+-- Codes 0x05 and 0x0C to 0x1F, which no row has, are refused.
+abbrev pub foundIn : List Row → Mode → ℕ → Ending Held
+foundIn [] mode code = refused
+foundIn (r ∷ rows) mode code = cond (eqb code (r .code)) (inMode mode r) (foundIn rows mode code)
 
--- The commands on EDAC memory.
-unfoldable pub edacCommandOf : ℕ → ℕ → List ℕ → List ℕ → Outcome (List ℕ)
-edacCommandOf room code edac field =
-    cond (eqb code 0x07) (reading edac (readFileOf room edac field))
-    (cond (eqb code 0x08) (writeFileOf room edac field)
-    (cond (eqb code 0x09) (reading edac (readEdacOf room edac field))
-    (cond (eqb code 0x0A) (writeEdacOf room edac field)
-    (cond (eqb code 0x0B) (reading edac (gatherOf room edac field)) refused))))
-
--- Only in application mode.
-abbrev pub inApplication : {M : Type 0} → Mode → Outcome M → Outcome M
-inApplication Application outcome = outcome
-inApplication Bootloader outcome = refused
-
--- The command of a code. Codes 0x05 and 0x0C to 0x1F are refused. `room` is the longest data field of a reply (1,028),
--- `first` the address of the first byte of FRAM (0x20040000).
-unfoldable pub commandOf : ℕ → ℕ → ℕ → List ℕ → Held → List ℕ → Outcome Held
-commandOf room first code diagnostics now field =
-    cond (eqb code 0x01) (inside (λ mode. held mode (now .edac) (now .memory)) (initOf (now .mode) field))
-    (cond (ltb code 0x07)
-    (inside (λ memory. held (now .mode) (now .edac) memory) (framCommandOf room first code diagnostics (now .memory) field))
-    (inside (λ edac. held (now .mode) edac (now .memory)) (inApplication (now .mode) (edacCommandOf room code (now .edac) field))))
+-- What the command of a code comes to, in the mode that is held.
+unfoldable pub commandOf : ℕ → ℕ → ℕ → List ℕ → Held → List ℕ → Ending Held
+commandOf room first code diagnostics now field = foundIn (table room first diagnostics now field) (now .mode) code

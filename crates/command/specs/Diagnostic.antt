@@ -4,7 +4,7 @@ use mathlib.Core.Bool.{Bool, true, cond, _&&_}
 use mathlib.Core.List.{List, [], _∷_, _++_}
 use lib.Dec.{eqb, leb, ltb}
 use lib.ListN.{length, getD}
-use Rattle.command.specs.Outcome.{Outcome, done, refused}
+use Rattle.carrying.specs.Ending.{Ending, done, refused}
 use Rattle.field.specs.Fields.{bytes32}
 
 abbrev pub lastChannel : ℕ
@@ -21,7 +21,7 @@ channelsShown diagnostics (channel ∷ channels) =
     channel ∷ bytes32 (getD diagnostics channel 0) ++ channelsShown diagnostics channels
 
 -- One channel or more, as many as the reply has room for (205 in a room of 1,028); a channel that is none refuses the whole.
-unfoldable pub diagnosticOf : ℕ → List ℕ → List ℕ → Outcome (Unit {0})
+unfoldable pub diagnosticOf : ℕ → List ℕ → List ℕ → Ending (Unit {0})
 diagnosticOf room diagnostics field =
     cond (eqb (length field) 0) refused
     (cond (ltb room (5 * length field)) refused

@@ -4,9 +4,9 @@ use mathlib.Core.Bool.{Bool, false, cond, _&&_}
 use mathlib.Core.List.{List, []}
 use lib.Dec.{eqb}
 use lib.ListN.{length}
-use Rattle.command.specs.declared.Mode.{Mode}
-use Rattle.command.specs.declared.Mode.the-variants.{Bootloader, Application}
-use Rattle.command.specs.Outcome.{Outcome, done, refused}
+use Rattle.carrying.specs.declared.Mode.{Mode}
+use Rattle.carrying.specs.declared.Mode.the-variants.{Bootloader, Application}
+use Rattle.carrying.specs.Ending.{Ending, done, refused}
 use Rattle.field.specs.Fields.{word32At}
 
 abbrev pub applicationStart : ℕ
@@ -18,6 +18,6 @@ starts Bootloader field = eqb (length field) 4 && eqb (word32At field 0) applica
 starts Application field = false
 
 -- No data: empty reply, bootloader mode. The start of the application: echoed, application mode. All else refused.
-unfoldable pub initOf : Mode → List ℕ → Outcome Mode
+unfoldable pub initOf : Mode → List ℕ → Ending Mode
 initOf mode field =
     cond (eqb (length field) 0) (done [] Bootloader) (cond (starts mode field) (done field Application) refused)

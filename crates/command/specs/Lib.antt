@@ -1,13 +1,4 @@
-pub mod Outcome
 pub mod Ping
 pub mod Init
-pub mod Peek
-pub mod Poke
 pub mod Diagnostic
-pub mod Crc
-pub mod ReadFile
-pub mod WriteFile
-pub mod ReadEdac
-pub mod WriteEdac
-pub mod Gather
 pub mod Command

@@ -1,5 +1,5 @@
 // DIAGNOSTIC 0x04.
-use crate::Answer;
+use carrying::Ended;
 use memory::bytes::put;
 ghost use mathlib.Core.Path.{_≡_};
 ghost use mathlib.Core.Bool.{true};
@@ -7,9 +7,13 @@ ghost use mathlib.Core.List.{_∷_};
 ghost use Prim.Native.Nat.{_+_, _*_, _≤_};
 ghost use lib.ListN.{length};
 ghost use Rattle.memory.specs.Bytes.{stored, begun};
+ghost use Rattle.memory.specs.Counts.{channels};
 ghost use Rattle.field.specs.Fields.{bytes32};
-ghost use Rattle.command.specs.Outcome.{left, leaves};
+ghost use Rattle.carrying.specs.Ending.{left, leaves};
 ghost use Rattle.command.specs.Diagnostic.{allChannels, channelsShown, diagnosticOf};
+
+// The last channel that there is.
+const LAST_CHANNEL: u8 = 0x1e;
 
 // Whether the list holds channels alone.
 fn are_channels(field: &[u8]) -> bool
@@ -17,7 +21,7 @@ fn are_channels(field: &[u8]) -> bool
 {
     let mut i = 0;
     while i < field.len() {
-        if 0x1e < field[i] {
+        if LAST_CHANNEL < field[i] {
             return false;
         }
         i += 1;
@@ -42,7 +46,7 @@ fn show_channel(channel: u8, value: u32, reply: &mut [u8], at: usize)
 
 // Shows each channel of a list, one after the other.
 fn show_channels(diagnostics: &[u32], field: &[u8], reply: &mut [u8])
-    requires { ⌜ (length (now diagnostics) ≡ 31) × (allChannels (now field) ≡ true) × (5 * length (now field) ≤ length (now reply)) ⌝ }
+    requires { ⌜ (length (now diagnostics) ≡ channels) × (allChannels (now field) ≡ true) × (5 * length (now field) ≤ length (now reply)) ⌝ }
     ensures { λ _. ⌜ now (reply .exit) ≡ begun (now (reply .entry)) (channelsShown (now (diagnostics .entry)) (now (field .entry))) ⌝ }
 {
     let mut i = 0;
@@ -53,21 +57,21 @@ fn show_channels(diagnostics: &[u32], field: &[u8], reply: &mut [u8])
     }
 }
 
-pub fn diagnostic(room: usize, diagnostics: &[u32], field: &[u8], reply: &mut [u8]) -> Answer
-    requires { ⌜ (room ≤ length (now reply)) × (length (now diagnostics) ≡ 31) ⌝ }
+pub fn diagnostic(room: usize, diagnostics: &[u32], field: &[u8], reply: &mut [u8]) -> Ended
+    requires { ⌜ (room ≤ length (now reply)) × (length (now diagnostics) ≡ channels) ⌝ }
     ensures { λ r. ⌜ left r (now (reply .exit)) tt
         ≡ leaves (diagnosticOf room (now (diagnostics .entry)) (now (field .entry))) (now (reply .entry)) tt ⌝ }
 {
     let count = field.len();
     if count == 0 {
-        return Answer::Refused;
+        return Ended::Refused;
     }
     if room / 5 < count {
-        return Answer::Refused;
+        return Ended::Refused;
     }
     if are_channels(field) {
         show_channels(diagnostics, field, reply);
-        return Answer::Done(5 * count);
+        return Ended::Done(5 * count);
     }
-    Answer::Refused
+    Ended::Refused
 }

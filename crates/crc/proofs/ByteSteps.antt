@@ -5,8 +5,7 @@ use Prim.Native.Nat.{ℕ, zero, suc, _+_, _*_, _/_, _%_, _^_, _<_}
 use native.Mathlib.Nat.{add-zero, zero-add, add-suc, suc-add, mul-one, le-of-suc-le-suc, not-suc-le-zero, div-add-mod', mod-lt, zero-lt-suc}
 use lib.Bits.{bitXor, xor-shifted, xor-comm, xor-zero-r, shifted-half, shifted-even}
 use lib.ListN.{getD}
-use Rattle.crc.specs.Sum.{bitStep, bitSteps, steps, tableOf, polynomial}
-use Rattle.crc.specs.Joining.{gate}
+use Rattle.crc.specs.Sum.{gate, bitStep, bitSteps, steps, tableOf, polynomial}
 use Rattle.crc.proofs.Linear.{bitSteps-linear}
 
 -- the entry at k of a run of entries that starts at i

@@ -3,7 +3,7 @@ use mathlib.Core.Path.{_≡_, refl}
 use mathlib.Core.List.{[], _∷_}
 use mathlib.Core.Option.{none}
 use Rattle.crc.specs.Sum.{bitStep, bitSteps, byteStep, sumFrom, sumOf, carried}
-use Rattle.crc.specs.Joining.{done, joinedOf, joinOf}
+use Rattle.crc.specs.Joining.{withPart, joinedOf, joinOf}
 
 pub P1 : sumOf [] ≡ 0xFFFF
 unfolding sumOf sumFrom
@@ -25,7 +25,7 @@ pub P5 : sumOf (0x41 ∷ 0x11 ∷ 0x80 ∷ []) ≡ 0x6DD8
 unfolding sumOf sumFrom byteStep bitSteps bitStep
 P5 = refl
 
-pub P8 : joinOf (record { sum = 0x00FF; len = 1 }) (record { sum = 0x00FF; len = 1 }) ≡ done (record { sum = 0x0000; len = 2 })
+pub P8 : joinOf (record { sum = 0x00FF; len = 1 }) (record { sum = 0x00FF; len = 1 }) ≡ withPart (record { sum = 0x0000; len = 2 })
 unfolding joinOf joinedOf carried byteStep bitSteps bitStep
 P8 = refl
 
@@ -39,6 +39,6 @@ pub one-too-many : joinOf (record { sum = 0xFFFF; len = 0xFFFFFFFF }) (record { 
 unfolding joinOf
 one-too-many = refl
 
-pub the-longest : joinOf (record { sum = 0xFFFF; len = 0xFFFFFFFE }) (record { sum = 0xFFFF; len = 1 }) ≡ done (record { sum = 0xFFFF; len = 0xFFFFFFFF })
+pub the-longest : joinOf (record { sum = 0xFFFF; len = 0xFFFFFFFE }) (record { sum = 0xFFFF; len = 1 }) ≡ withPart (record { sum = 0xFFFF; len = 0xFFFFFFFF })
 unfolding joinOf joinedOf carried byteStep bitSteps bitStep
 the-longest = refl

@@ -3,8 +3,7 @@ use mathlib.Core.Path.{_≡_, sym, ap, ap₂, _∙_}
 use Prim.Native.Nat.{ℕ, zero, suc, _/_, _%_, _^_, _<_}
 use lib.Arith.{lt-one}
 use lib.Bits.{bitXor, xor-comm, xor-zero-r}
-use Rattle.crc.specs.Sum.{bitStep, bitSteps, byteStep, fragment, polynomial}
-use Rattle.crc.specs.Joining.{gate}
+use Rattle.crc.specs.Sum.{gate, bitStep, bitSteps, byteStep, fragment, polynomial}
 use Rattle.crc.proofs.Xor.{xor-half, xor-assoc}
 use Rattle.crc.proofs.Halving.{half-below}
 

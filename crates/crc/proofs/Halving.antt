@@ -8,8 +8,8 @@ use lib.Arith.{lt-one}
 use lib.Dec.{T, eqb, eqb→eq, lit<}
 use lib.Pow.{pow-pos}
 use lib.Bits.{bitXor, xor-shifted, xor-zero-r, xor-comm, xor-lt}
-use Rattle.crc.specs.Sum.{bitStep, bitSteps, byteStep, carried, polynomial}
-use Rattle.crc.specs.Joining.{gate, product, one, powerOf}
+use Rattle.crc.specs.Sum.{gate, bitStep, bitSteps, byteStep, carried, polynomial}
+use Rattle.crc.specs.Joining.{product, noShift, powerOf}
 use Rattle.crc.proofs.Xor.{bit-cases, xor-half, xor-across}
 use Rattle.crc.proofs.Linear.{gate-linear, bitStep-linear, bitSteps-linear, bitSteps-zero, carried-add}
 
@@ -174,33 +174,33 @@ product-carried (suc n) sum power hs hp =
     ∙ ap (carried n)
     (ap (product 16 sum) (byteStep-zero power) ∙ product-steps 8 sum power hs hp ∙ sym (byteStep-zero (product 16 sum power)))
 
-product-one : (sum : ℕ) → product 16 sum one ≡ sum
+product-one : (sum : ℕ) → product 16 sum noShift ≡ sum
 unfolding product bitSteps bitStep
 product-one sum = xor-zero-r sum
 
 -- a sum times the power for n is the sum carried over n zero bytes
 pub product-carries : (n sum : ℕ) → sum < 2 ^ 16 → product 16 sum (powerOf n) ≡ carried n sum
 unfolding powerOf
-product-carries n sum h = product-carried n sum one h (lit< tt) ∙ ap (carried n) (product-one sum)
+product-carries n sum h = product-carried n sum noShift h (lit< tt) ∙ ap (carried n) (product-one sum)
 
 pub power-below : (n : ℕ) → powerOf n < 2 ^ 16
 unfolding powerOf
-power-below n = carried-below n one (lit< tt)
+power-below n = carried-below n noShift (lit< tt)
 
 -- ---- the powers, by halving
 
-pub power-none : (n : ℕ) → n ≡ 0 → one ≡ powerOf n
+pub power-none : (n : ℕ) → n ≡ 0 → noShift ≡ powerOf n
 unfolding powerOf carried
 power-none n e = ap powerOf (sym e)
 
 square : (half : ℕ) → product 16 (powerOf half) (powerOf half) ≡ powerOf (half + half)
 unfolding powerOf
-square half = product-carries half (powerOf half) (power-below half) ∙ sym (carried-add half half one)
+square half = product-carries half (powerOf half) (power-below half) ∙ sym (carried-add half half noShift)
 
 shifted-square : (half : ℕ) → bitSteps 8 (product 16 (powerOf half) (powerOf half)) ≡ powerOf (half + half + 1)
 unfolding powerOf carried
 shifted-square half =
-    ap (bitSteps 8) (square half) ∙ sym (byteStep-zero (powerOf (half + half))) ∙ sym (carried-add (half + half) 1 one)
+    ap (bitSteps 8) (square half) ∙ sym (byteStep-zero (powerOf (half + half))) ∙ sym (carried-add (half + half) 1 noShift)
 
 pub power-even : (n half squared : ℕ) → n % 2 ≡ 0 → half ≡ powerOf (n / 2) → squared ≡ product 16 half half → squared ≡ powerOf n
 power-even n half squared even eh es =

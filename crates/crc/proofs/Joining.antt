@@ -14,7 +14,7 @@ use Rattle.crc.specs.declared.Part.{Part}
 use Rattle.crc.specs.declared.Joined.{Joined}
 use Rattle.crc.specs.declared.Joined.the-variants.{Whole, TooLong}
 use Rattle.crc.specs.Sum.{start, sumFrom, sumOf, carried}
-use Rattle.crc.specs.Joining.{partOf, neutral, joinedOf, joinAll, longest, answerOf, done, tooLong, joinOf, joinParts, Order, only, both, partsOf, joinedIn, answerIn, whole, powerOf, product}
+use Rattle.crc.specs.Joining.{partOf, neutral, joinedOf, joinAll, longestPart, joiningOf, withPart, tooLong, joinOf, joinParts, Order, only, both, partsOf, joinedIn, joiningIn, allBytes, powerOf, product}
 use Rattle.crc.proofs.Xor.{xor-assoc, xor-twice}
 use Rattle.crc.proofs.Halving.{product-carries}
 use Rattle.crc.proofs.Linear.{carried-linear, carried-zero, carried-add, sumFrom-linear}
@@ -76,37 +76,37 @@ unfolding joinAll joinedIn partsOf
 order-joins-all (only p) = sym (neutral-on-the-right p)
 order-joins-all (both l r) = ap₂ joinedOf (order-joins-all l) (order-joins-all r) ∙ sym (joinAll-append (partsOf l) (partsOf r))
 
-pub joinAll-pieces : (pieces : List (List ℕ)) → joinAll (map partOf pieces) ≡ partOf (whole pieces)
-unfolding joinAll whole sumOf sumFrom
+pub joinAll-pieces : (pieces : List (List ℕ)) → joinAll (map partOf pieces) ≡ partOf (allBytes pieces)
+unfolding joinAll allBytes sumOf sumFrom
 joinAll-pieces [] = refl
 joinAll-pieces (piece ∷ pieces) =
-    ap (joinedOf (partOf piece)) (joinAll-pieces pieces) ∙ joined-parts-are-the-part-of-both piece (whole pieces)
+    ap (joinedOf (partOf piece)) (joinAll-pieces pieces) ∙ joined-parts-are-the-part-of-both piece (allBytes pieces)
 
 -- Demand 3, last sentence. Whatever the pieces, empty ones too, and whichever neighbours are joined first, the sums and
 -- lengths of the pieces alone give the part of the whole.
-pub any-order-gives-the-whole : (pieces : List (List ℕ)) (t : Order) → partsOf t ≡ map partOf pieces → joinedIn t ≡ partOf (whole pieces)
+pub any-order-gives-the-whole : (pieces : List (List ℕ)) (t : Order) → partsOf t ≡ map partOf pieces → joinedIn t ≡ partOf (allBytes pieces)
 any-order-gives-the-whole pieces t e = order-joins-all t ∙ ap joinAll e ∙ joinAll-pieces pieces
 
-order-answers : (t : Order) → joinedIn t .len ≤ longest → answerIn t ≡ done (joinedIn t)
-unfolding answerIn joinedIn joinOf joinedOf
+order-answers : (t : Order) → joinedIn t .len ≤ longestPart → joiningIn t ≡ withPart (joinedIn t)
+unfolding joiningIn joinedIn joinOf joinedOf
 order-answers (only p) h = refl
 order-answers (both l r) h =
     ap₂ (λ a b. joinParts (a .part) (b .part))
     (order-answers l (le-trans (le-add-right (joinedIn l .len) (joinedIn r .len)) h))
     (order-answers r (le-trans (le-add-left (joinedIn r .len) (joinedIn l .len)) h))
-    ∙ ap (λ t. cond t (done (joinedOf (joinedIn l) (joinedIn r))) tooLong) (le-leb _ _ h)
+    ∙ ap (λ t. cond t (withPart (joinedOf (joinedIn l) (joinedIn r))) tooLong) (le-leb _ _ h)
 
 -- The same of the answers of joining: where the whole is not too long, no joining on the way is refused.
-pub any-order-answers-the-whole : (pieces : List (List ℕ)) (t : Order) → partsOf t ≡ map partOf pieces → length (whole pieces) ≤ longest
-    → answerIn t ≡ done (partOf (whole pieces))
+pub any-order-answers-the-whole : (pieces : List (List ℕ)) (t : Order) → partsOf t ≡ map partOf pieces → length (allBytes pieces) ≤ longestPart
+    → joiningIn t ≡ withPart (partOf (allBytes pieces))
 any-order-answers-the-whole pieces t e h =
-    order-answers t (rw (any-order-gives-the-whole pieces t e) h) ∙ ap done (any-order-gives-the-whole pieces t e)
+    order-answers t (rw (any-order-gives-the-whole pieces t e) h) ∙ ap withPart (any-order-gives-the-whole pieces t e)
 
 -- Two outcomes that the contract of `join` allows are equal.
-pub join-has-one-outcome : (a b : Part) (r s : Joined) → answerOf r ≡ joinOf a b → answerOf s ≡ joinOf a b → r ≡ s
+pub join-has-one-outcome : (a b : Part) (r s : Joined) → joiningOf r ≡ joinOf a b → joiningOf s ≡ joinOf a b → r ≡ s
 join-has-one-outcome a b r s hr hs = same r s (hr ∙ sym hs)
   where
-    same : (r s : Joined) → answerOf r ≡ answerOf s → r ≡ s
+    same : (r s : Joined) → joiningOf r ≡ joiningOf s → r ≡ s
     same (Whole p) (Whole q) e = let h : some p ≡ some q = ap (λ x. x .part) e in cc
     same (Whole p) TooLong e = let z : _≡_ {A = ℕ} 0 36 = ap (λ x. x .number) e in absurd (omega arith)
     same TooLong (Whole q) e = let z : _≡_ {A = ℕ} 36 0 = ap (λ x. x .number) e in absurd (omega arith)
@@ -114,16 +114,16 @@ join-has-one-outcome a b r s hr hs = same r s (hr ∙ sym hs)
 
 -- ---- the two ways through `join`
 
-pub join-refuses : (a b : Part) → longest - a .len < b .len → tooLong ≡ joinOf a b
+pub join-refuses : (a b : Part) → longestPart - a .len < b .len → tooLong ≡ joinOf a b
 unfolding joinOf
-join-refuses a b h = simp (lt-leb (a .len + b .len) longest (omega arith))
+join-refuses a b h = simp (lt-leb (a .len + b .len) longestPart (omega arith))
 
-pub join-joins : (a b : Part) (power carried : ℕ) → a .sum < 2 ^ 16 → a .len ≤ longest → b .len ≤ longest - a .len → power ≡ powerOf (b .len)
-    → carried ≡ product 16 (bitXor (a .sum) start) power → done (record { sum = bitXor carried (b .sum); len = a .len + b .len }) ≡ joinOf a b
+pub join-joins : (a b : Part) (power carried : ℕ) → a .sum < 2 ^ 16 → a .len ≤ longestPart → b .len ≤ longestPart - a .len → power ≡ powerOf (b .len)
+    → carried ≡ product 16 (bitXor (a .sum) start) power → withPart (record { sum = bitXor carried (b .sum); len = a .len + b .len }) ≡ joinOf a b
 unfolding joinOf joinedOf
 join-joins a b power carried small fits room ep ec =
-    simp (le-leb (a .len + b .len) longest (omega arith))
-    (ap (λ (x : ℕ). done (record { sum = bitXor x (b .sum); len = a .len + b .len }))
+    simp (le-leb (a .len + b .len) longestPart (omega arith))
+    (ap (λ (x : ℕ). withPart (record { sum = bitXor x (b .sum); len = a .len + b .len }))
     (ec
     ∙ ap (product 16 (bitXor (a .sum) start)) ep
     ∙ product-carries (b .len) (bitXor (a .sum) start) (xor-lt 16 (a .sum) start small (lit< tt))))

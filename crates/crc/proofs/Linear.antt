@@ -5,8 +5,7 @@ use Prim.Native.Nat.{ℕ, zero, suc, _+_, _/_, _%_}
 use native.Mathlib.Nat.{zero-add, suc-add}
 use lib.Bits.{bitXor, differ, xor-zero-r, xor-self}
 use lib.ListN.{length}
-use Rattle.crc.specs.Sum.{bitStep, bitSteps, byteStep, sumFrom, carried, polynomial}
-use Rattle.crc.specs.Joining.{gate}
+use Rattle.crc.specs.Sum.{gate, bitStep, bitSteps, byteStep, sumFrom, carried, polynomial}
 use Rattle.crc.proofs.Xor.{bit-cases, xor-half, xor-odd, xor-assoc, xor-across}
 
 pub gate-linear : (v a b : ℕ) → gate v (bitXor a b % 2) ≡ bitXor (gate v (a % 2)) (gate v (b % 2))

@@ -7,8 +7,8 @@ use native.Mathlib.Numerals.{add-one, sub-one}
 use lib.Bits.{bitXor, xor-zero-r}
 use lib.ListN.{length, drop, getD, drop-of-length-le}
 use lib.Seq.{drop-cons}
-use Rattle.crc.specs.Sum.{bitStep, bitSteps, byteStep, sumFrom}
-use Rattle.crc.specs.Joining.{gate, product}
+use Rattle.crc.specs.Sum.{gate, bitStep, bitSteps, byteStep, sumFrom}
+use Rattle.crc.specs.Joining.{product}
 use Rattle.crc.proofs.Xor.{xor-assoc}
 use Rattle.crc.proofs.Linear.{bitSteps-linear, bitSteps-zero}
 

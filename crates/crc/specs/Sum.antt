@@ -13,9 +13,13 @@ start = 0xFFFF
 abbrev pub polynomial : ℕ
 polynomial = 0x8408
 
+-- A value where the digit is 1, else nothing.
+abbrev pub gate : ℕ → ℕ → ℕ
+gate value digit = cond (eqb digit 1) value 0
+
 -- One bit: the sum moves down by one place, and a 1 that falls out brings the polynomial in.
 unfoldable pub bitStep : ℕ → ℕ
-bitStep sum = bitXor (sum / 2) (cond (eqb (sum % 2) 1) polynomial 0)
+bitStep sum = bitXor (sum / 2) (gate polynomial (sum % 2))
 
 unfoldable pub bitSteps : ℕ → ℕ → ℕ
 bitSteps zero sum = sum
@@ -29,7 +33,7 @@ byteStep sum byte = bitSteps 8 (bitXor sum byte)
 -- `byteStep-is-the-fragment` in proofs/ says that the two agree.
 unfoldable pub fragment : ℕ → ℕ → ℕ → ℕ
 fragment zero crc ch = crc
-fragment (suc left) crc ch = fragment left (bitXor (crc / 2) (cond (eqb (bitXor ch crc % 2) 1) polynomial 0)) (ch / 2)
+fragment (suc left) crc ch = fragment left (bitXor (crc / 2) (gate polynomial (bitXor ch crc % 2))) (ch / 2)
 
 -- The sum that goes on from another over a list of bytes.
 unfoldable pub sumFrom : ℕ → List ℕ → ℕ

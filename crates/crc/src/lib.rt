@@ -3,8 +3,8 @@ mod table;
 
 use table::TABLE;
 ghost use mathlib.Core.Path.{_≡_};
-ghost use Rattle.crc.specs.Sum.{bitStep, bitSteps, byteStep, sumFrom, sumOf, tableOf};
-ghost use Rattle.crc.specs.Joining.{answerOf, gate, joinOf, powerOf, product};
+ghost use Rattle.crc.specs.Sum.{gate, bitStep, bitSteps, byteStep, sumFrom, sumOf, tableOf};
+ghost use Rattle.crc.specs.Joining.{joiningOf, joinOf, powerOf, product};
 
 // The sum of no bytes.
 const START: u16 = 0xffff;
@@ -13,10 +13,10 @@ const START: u16 = 0xffff;
 const POLYNOMIAL: u16 = 0x8408;
 
 // The power that shifts by nothing.
-const ONE: u16 = 0x8000;
+const NO_SHIFT: u16 = 0x8000;
 
 // The largest length that a part can have.
-const LONGEST: u32 = 0xffff_ffff;
+const LONGEST_PART: u32 = 0xffff_ffff;
 
 // A sum after one more byte. The table is lent, because a constant is copied whole where it is indexed.
 fn step(table: &[u16; 256], sum: u16, byte: u8) -> u16
@@ -114,7 +114,7 @@ pub fn power(n: u32) -> u16
     ensures { λ r. ⌜ r ≡ powerOf n ⌝ }
 {
     if n == 0 {
-        return ONE;
+        return NO_SHIFT;
     }
     let half = power(n / 2);
     let square = carry(half, half);
@@ -127,9 +127,9 @@ pub fn power(n: u32) -> u16
 
 // Two parts, one after the other, as one.
 pub fn join(a: Part, b: Part) -> Joined
-    ensures { λ r. ⌜ answerOf r ≡ joinOf a b ⌝ }
+    ensures { λ r. ⌜ joiningOf r ≡ joinOf a b ⌝ }
 {
-    let room = LONGEST - a.len;
+    let room = LONGEST_PART - a.len;
     if room < b.len {
         return Joined::TooLong;
     }

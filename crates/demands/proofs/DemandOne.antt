@@ -2,174 +2,131 @@
 -- never halts, and that nobody outside has to check first, is what is proved of `unit::step`: it has no `requires`, and gives the
 -- outcome that `stepOf` says for every record, byte and lent buffers of any length. Assumes nothing.
 use mathlib.Core.Path.{_≡_, refl, sym, ap, _∙_}
+use mathlib.Core.Bool.{true}
 use mathlib.Core.List.{List}
-use Prim.Native.Nat.{ℕ, _+_, _-_, _≤_, _<_}
+use Prim.Native.Nat.{ℕ, _+_, _≤_, _<_}
 use native.Mathlib.Omega.{arith}
 use borrow.Author.Tests.{le-leb, lt-leb}
-use lib.Dec.{ltb, eqb}
-use lib.ListN.{length, take, getD}
-use Rattle.line.specs.declared.receiver.Heard.{Heard}
-use Rattle.line.specs.declared.receiver.Heard.the-variants as heard
-use Rattle.line.specs.Receiver.{receiveOf, fresh}
-use Rattle.line.specs.Packing.{packedOf}
+use lib.Dec.{leb}
+use lib.ListN.{length, take}
+use Rattle.line.specs.declared.receiver.Receiver.{Receiver}
+use Rattle.line.specs.Packing.{packedOf, messageSize}
+use Rattle.line.specs.Receiver.{receiveOf}
 use Rattle.memory.specs.Bytes.{begun}
 use Rattle.memory.specs.Counts.{countedUp}
-use Rattle.memory.specs.Fram.{freshSums}
 use Rattle.memory.proofs.Stretches.{the-written-part-is-handed-back}
-use Rattle.command.specs.Outcome as command
-use Rattle.command.specs.Command.{Held}
-use Rattle.command.specs.declared.Mode.the-variants.{Bootloader}
-use Rattle.unit.specs.declared.Unit.{Unit}
-use Rattle.unit.specs.declared.Answer.{Answer}
-use Rattle.unit.specs.declared.Answer.the-variants.{Taken, Acked, Done, Nacked, Refused, Framing, Runt, Oversize, BadCrc, Elsewhere, Unfitted, BadAddress, BadEdac, BadFram, BadSums, BadDiagnostics, BadBuffers, BadCount}
-use Rattle.unit.specs.declared.Fit.{Fit}
-use Rattle.unit.specs.declared.Fit.the-variants.{Fits, Unfit}
-use Rattle.unit.specs.Answers.{numberOf, sentOf}
-use Rattle.unit.specs.World.{World, lengthsOf, Outcome, outcome, withSums, withReceiver, withMode, withMessage, withHeld}
-use Rattle.unit.specs.Fitting.{messageSize, stepFit, lengthsFit, setUpFit}
-use Rattle.unit.specs.Replies.{polls, replyMessage}
-use Rattle.unit.specs.Runs.{firstCount, dropped, saying, inWorld, answered, commandedOf, soundOf, runOf}
-use Rattle.unit.specs.Steps.{unless, heardOf, receivedOf, stepOf, nobody, setUpOf}
+use Rattle.carrying.specs.Ending.{longestData, Ending, done, refused, unfitted}
+use Rattle.carrying.specs.Held.{Held}
+use Rattle.carrying.proofs.Room.{either-way}
+use Rattle.command.specs.Command.{commandOf}
+use Rattle.answer.specs.declared.Answer.{Answer}
+use Rattle.answer.specs.declared.Answer.the-variants.{Taken, Acked, Done, Nacked, Refused, Framing, Runt, Oversize, BadCrc, Elsewhere, Unfitted, BadAddress, BadEdac, BadFram, BadSums, BadDiagnostics, BadBuffers, BadCount}
+use Rattle.answer.specs.Answers.{numberOf, sentOf}
+use Rattle.judging.specs.declared.Unit.{Unit}
+use Rattle.judging.specs.declared.fitting.Fit.the-variants.{Fits, Unfit}
+use Rattle.judging.specs.Fitting.{setUpFit, lengthsFit, stepFit}
+use Rattle.judging.specs.Judging.{firstCount, withReceiver, judgeOf}
+use Rattle.replying.specs.Replies.{polls, codeOf, replyMessage, Said, saying, saidOf}
+use Rattle.unit.specs.World.{World, lengthsOf, Outcome, outcome, withMode, withMessage, withDiagnostics, withReply, heldOf, withHeld}
+use Rattle.unit.specs.Steps.{nobody, setUpAs, setUpOf, firstOfFram, answered, servedOf, stepOf}
 use Rattle.demands.specs.Leaving.{countsAfter, Leaves}
-use Rattle.demands.proofs.Cases.{either-way, a-refused-step-has-its-number}
-
--- what a call leaves that is not refused
-record Serves (u : Unit) (w : World) (o : Outcome) : Type 0 where
-  low : numberOf (o .answer) < 20
-  memory : (numberOf (o .answer) ≡ 1 → ⊥) → (numberOf (o .answer) ≡ 2 → ⊥)
-      → (o .world .edac ≡ w .edac) × (o .world .fram ≡ w .fram) × (o .world .sums ≡ w .sums) × (o .unit .mode ≡ u .mode)
-  counts : o .world .diagnostics ≡ countsAfter (o .answer) (w .diagnostics)
-  reply : o .world .reply ≡ begun (w .reply) (take (sentOf (o .answer)) (o .world .reply))
-  address : o .unit .address ≡ u .address
-  fram-length : o .unit .«fram_len» ≡ u .«fram_len»
+use Rattle.demands.proofs.Cases.{Each, of-any-call, a-refused-step-has-its-number}
 
 -- nothing written is the written part of nothing
-nothing-sent : (reply : List ℕ) → reply ≡ begun reply (take 0 reply)
+nothing-sent : (reply : List ℕ) (n : ℕ) → n ≡ 0 → reply ≡ begun reply (take n reply)
 unfolding begun
-nothing-sent reply = refl
+nothing-sent reply n none = ap (λ (k : ℕ). begun reply (take k reply)) (sym none)
 
 -- what is sent is the written part
 something-sent : (reply bytes : List ℕ) → begun reply bytes ≡ begun reply (take (length bytes) (begun reply bytes))
 something-sent reply bytes = ap (begun reply) (sym (the-written-part-is-handed-back reply bytes))
 
--- an answer of a served call that sends nothing, counts nothing and leaves memory as it is
-quiet : (u : Unit) (w : World) (answer : Answer) → numberOf answer < 20 → countsAfter answer (w .diagnostics) ≡ w .diagnostics → sentOf answer ≡ 0
-    → Serves u w (outcome u answer w)
-quiet u w answer low still silent =
-    record {
-      low = low;
-      memory = λ _ _. (refl, refl, refl, refl);
-      counts = sym still;
-      reply = nothing-sent (w .reply) ∙ ap (λ (n : ℕ). begun (w .reply) (take n (w .reply))) (sym silent);
-      address = refl;
-      fram-length = refl;
-    }
+-- ---- each case of a call that is not refused
 
--- a dropped run
-a-drop : (u : Unit) (w : World) (answer : Answer) (which : ℕ) → numberOf answer < 20
-    → countsAfter answer (w .diagnostics) ≡ countedUp (w .diagnostics) (firstCount + which) → sentOf answer ≡ 0 → Serves u w (dropped u answer which w)
-a-drop u w answer which low counted silent =
-    record {
-      low = low;
-      memory = λ _ _. (refl, refl, refl, refl);
-      counts = sym counted;
-      reply = nothing-sent (w .reply) ∙ ap (λ (n : ℕ). begun (w .reply) (take n (w .reply))) (sym silent);
-      address = refl;
-      fram-length = refl;
-    }
+module _ (u : Unit) (w : World) (receiver : Receiver) (message : List ℕ) where
+  -- the unit and what is lent, once the byte is received
+  abbrev next : Unit
+  next = withReceiver u receiver
 
--- a command answered
-done-is-answered : (u : Unit) (w : World) (control : ℕ) (message : List ℕ) (after : Held)
-    → Serves u w (inWorld (saying (withMode u (after .mode)) Acked Done control message (w .reply)) (withHeld w after))
-unfolding saying
-done-is-answered u w control message after =
-    either-way (λ s. Serves u w (inWorld s (withHeld w after))) (polls control) _ _
-    (λ _. record {
-      low = omega arith;
-      memory = λ one two. absurd (one refl);
-      counts = refl;
-      reply = something-sent (w .reply) (packedOf message);
-      address = refl;
-      fram-length = refl;
-    })
-    (λ _. record {
-      low = omega arith;
-      memory = λ one two. absurd (two refl);
-      counts = refl;
-      reply = nothing-sent (w .reply);
-      address = refl;
-      fram-length = refl;
-    })
+  abbrev heard : World
+  heard = withMessage w message
 
-refused-is-answered : (u : Unit) (w : World) (control : ℕ) (message : List ℕ) → Serves u w (inWorld (saying u Nacked Refused control message (w .reply)) w)
-unfolding saying
-refused-is-answered u w control message =
-    either-way (λ s. Serves u w (inWorld s w)) (polls control) _ _
-    (λ _. record {
-      low = omega arith;
-      memory = λ _ _. (refl, refl, refl, refl);
-      counts = refl;
-      reply = something-sent (w .reply) (packedOf message);
-      address = refl;
-      fram-length = refl;
-    })
-    (λ _. quiet u w Refused (omega arith) refl refl)
+  -- an answer that counts and sends nothing
+  quiet : (answer : Answer) → numberOf answer < 20 → countsAfter answer (w .diagnostics) ≡ w .diagnostics → sentOf answer ≡ 0 → Leaves u w (outcome next answer heard)
+  quiet answer low still silent =
+      record {
+        nothing-by-a-refused-call = λ high. absurd (omega arith);
+        memory-unless-a-command-is-done = λ _ _. (refl, refl, refl, refl);
+        counts = sym still;
+        reply = nothing-sent (w .reply) (sentOf answer) silent;
+        address = refl;
+        fram-length = refl;
+      }
 
-answered-leaves : (u : Unit) (destination source control : ℕ) (field : List ℕ) (o : command.Outcome Held) (w : World)
-    → Serves u w (answered u destination source control field o w)
-unfolding answered
-answered-leaves u destination source control field (command.done reply after) w =
-    done-is-answered u w control (replyMessage 1 destination source control reply) after
-answered-leaves u destination source control field command.refused w =
-    refused-is-answered u w control (replyMessage 0 destination source control field)
-answered-leaves u destination source control field command.unfitted w = quiet u w Unfitted (omega arith) refl refl
+  counted : (answer : Answer) (which : ℕ) → numberOf answer ≡ 5 + which → which < 4 → countsAfter answer (w .diagnostics) ≡ countedUp (w .diagnostics) (firstCount + which)
+  counted answer which number four =
+      let low : leb 5 (numberOf answer) ≡ true = le-leb 5 (numberOf answer) (omega arith) in
+      let high : leb (numberOf answer) 8 ≡ true = le-leb (numberOf answer) 8 (omega arith) in
+      let channel : numberOf answer + 2 ≡ firstCount + which = omega arith in
+      simp (low, high) (ap (countedUp (w .diagnostics)) channel)
 
-run-leaves : (u : Unit) (count : ℕ) (w : World) → Serves u w (runOf u count w)
-unfolding runOf commandedOf
-run-leaves u count w =
-    either-way (Serves u w) (ltb count 5) _ _ (λ _. a-drop u w Runt 1 (omega arith) refl refl)
-    (λ _. either-way (Serves u w) (ltb messageSize count) _ _ (λ _. a-drop u w Oversize 2 (omega arith) refl refl)
-    (λ _. either-way (Serves u w) (soundOf count (w .message)) _ _
-    (λ _. either-way (Serves u w) (eqb (getD (w .message) 0 0) (u .address)) _ _
-    (λ _. answered-leaves u _ _ _ _ _ w)
-    (λ _. quiet u w Elsewhere (omega arith) refl refl))
-    (λ _. a-drop u w BadCrc 3 (omega arith) refl refl)))
+  -- a dropped run
+  a-drop : (answer : Answer) (which : ℕ) → numberOf answer ≡ 5 + which → which < 4 → sentOf answer ≡ 0
+      → Leaves u w (outcome next answer (withDiagnostics heard (countedUp (w .diagnostics) (firstCount + which))))
+  a-drop answer which number four silent =
+      record {
+        nothing-by-a-refused-call = λ high. absurd (omega arith);
+        memory-unless-a-command-is-done = λ _ _. (refl, refl, refl, refl);
+        counts = sym (counted answer which number four);
+        reply = nothing-sent (w .reply) (sentOf answer) silent;
+        address = refl;
+        fram-length = refl;
+      }
 
-heard-leaves : (u : Unit) (h : Heard) (w : World) → Serves u w (heardOf u h w)
-unfolding heardOf
-heard-leaves u heard.Taken w = quiet u w Taken (omega arith) refl refl
-heard-leaves u heard.Empty w = quiet u w Taken (omega arith) refl refl
-heard-leaves u heard.Framing w = a-drop u w Framing 0 (omega arith) refl refl
-heard-leaves u (heard.Message count) w = run-leaves u count w
+  -- a command answered
+  a-command : (destination source control : ℕ) (field : List ℕ) (o : Ending Held) → Leaves u w (answered next destination source control field o heard)
+  unfolding answered saidOf saying
+  a-command destination source control field (done bytes changed) =
+      either-way (λ (s : Said). Leaves u w (outcome (withMode next (changed .mode)) (s .answer) (withReply (withHeld heard changed) (s .reply)))) (polls control) _ _
+      (λ _. record {
+        nothing-by-a-refused-call = λ high. absurd (omega arith);
+        memory-unless-a-command-is-done = λ one two. absurd (one refl);
+        counts = refl;
+        reply = something-sent (w .reply) (packedOf (replyMessage 1 destination source control bytes));
+        address = refl;
+        fram-length = refl;
+      })
+      (λ _. record {
+        nothing-by-a-refused-call = λ high. absurd (omega arith);
+        memory-unless-a-command-is-done = λ one two. absurd (two refl);
+        counts = refl;
+        reply = nothing-sent (w .reply) 0 refl;
+        address = refl;
+        fram-length = refl;
+      })
+  a-command destination source control field refused =
+      either-way (λ (s : Said). Leaves u w (outcome next (s .answer) (withReply heard (s .reply)))) (polls control) _ _
+      (λ _. record {
+        nothing-by-a-refused-call = λ high. absurd (omega arith);
+        memory-unless-a-command-is-done = λ _ _. (refl, refl, refl, refl);
+        counts = refl;
+        reply = something-sent (w .reply) (packedOf (replyMessage 0 destination source control field));
+        address = refl;
+        fram-length = refl;
+      })
+      (λ _. quiet Refused (omega arith) refl refl)
+  a-command destination source control field unfitted = quiet Unfitted (omega arith) refl refl
 
--- closing a run stores nothing in the message buffer
-answered-keeps : (u : Unit) (destination source control : ℕ) (field : List ℕ) (o : command.Outcome Held) (w : World)
-    → answered u destination source control field o w .world .message ≡ w .message
-unfolding answered
-answered-keeps u destination source control field (command.done reply after) w = refl
-answered-keeps u destination source control field command.refused w = refl
-answered-keeps u destination source control field command.unfitted w = refl
+  each-case : Each (Leaves u w) next heard
+  each-case =
+      record {
+        taken = quiet Taken (omega arith) refl refl;
+        elsewhere = quiet Elsewhere (omega arith) refl refl;
+        dropped = a-drop;
+        commanded = λ destination source control field short. a-command destination source control field (commandOf longestData firstOfFram (codeOf control) (w .diagnostics) (heldOf next heard) field);
+      }
 
-heard-keeps : (u : Unit) (h : Heard) (w : World) → heardOf u h w .world .message ≡ w .message
-unfolding heardOf runOf commandedOf
-heard-keeps u heard.Taken w = refl
-heard-keeps u heard.Empty w = refl
-heard-keeps u heard.Framing w = refl
-heard-keeps u (heard.Message count) w =
-    either-way (λ (o : Outcome). o .world .message ≡ w .message) (ltb count 5) _ _ (λ _. refl)
-    (λ _. either-way (λ (o : Outcome). o .world .message ≡ w .message) (ltb messageSize count) _ _ (λ _. refl)
-    (λ _. either-way (λ (o : Outcome). o .world .message ≡ w .message) (soundOf count (w .message)) _ _
-    (λ _. either-way (λ (o : Outcome). o .world .message ≡ w .message) (eqb (getD (w .message) 0 0) (u .address)) _ _
-    (λ _. answered-keeps u _ _ _ _ _ w)
-    (λ _. refl))
-    (λ _. refl)))
-
-received-serves : (u : Unit) (byte : ℕ) (w : World) → Serves u w (receivedOf u byte w)
-unfolding receivedOf
-received-serves u byte w =
-    let got = receiveOf messageSize (u .receiver) byte (w .message) in
-    let s = heard-leaves (withReceiver u (got .receiver)) (got .heard) (withMessage w (got .message)) in
-    record { low = s .low; memory = s .memory; counts = s .counts; reply = s .reply; address = s .address; fram-length = s .fram-length }
+-- ---- a call that is refused
 
 -- an answer of 20 or more counts and sends nothing
 high-counts : (answer : Answer) (diagnostics : List ℕ) → 20 ≤ numberOf answer → countsAfter answer diagnostics ≡ diagnostics
@@ -197,44 +154,30 @@ high-sends BadCount high = refl
 
 -- For any record, byte and lent buffers of any length.
 pub what-every-answer-leaves : (u : Unit) (byte : ℕ) (w : World) → Leaves u w (stepOf u byte w)
-unfolding stepOf
-what-every-answer-leaves u byte w = apart (stepFit u (lengthsOf w)) refl
-  where
-    apart : (f : Fit) → stepFit u (lengthsOf w) ≡ f → Leaves u w (unless f u w (receivedOf u byte w))
-    apart (Unfit answer) e =
-        let high = a-refused-step-has-its-number u (lengthsOf w) answer e in
-        record {
-          nothing-by-a-refused-call = λ _. (refl, refl);
-          memory-unless-a-command-is-done = λ _ _. (refl, refl, refl, refl);
-          counts = sym (high-counts answer (w .diagnostics) high);
-          reply = nothing-sent (w .reply) ∙ ap (λ (n : ℕ). begun (w .reply) (take n (w .reply))) (sym (high-sends answer high));
-          address = refl;
-          fram-length = refl;
-        }
-    apart Fits e =
-        let s = received-serves u byte w in
-        record {
-          nothing-by-a-refused-call = λ high. absurd (omega (arith, s .low));
-          memory-unless-a-command-is-done = s .memory;
-          counts = s .counts;
-          reply = s .reply;
-          address = s .address;
-          fram-length = s .fram-length;
-        }
+what-every-answer-leaves u byte w =
+    of-any-call (Leaves u w) u byte w
+    (λ answer e.
+    let high = a-refused-step-has-its-number u (lengthsOf w) answer e in record {
+      nothing-by-a-refused-call = λ _. (refl, refl);
+      memory-unless-a-command-is-done = λ _ _. (refl, refl, refl, refl);
+      counts = sym (high-counts answer (w .diagnostics) high);
+      reply = nothing-sent (w .reply) (sentOf answer) (high-sends answer high);
+      address = refl;
+      fram-length = refl;
+    })
+    (λ _. each-case u w _ _)
 
 -- What the message buffer holds after a call that is not refused: what the line's receiver stores, and closing a run stores nothing.
 pub what-the-message-buffer-holds : (u : Unit) (byte : ℕ) (w : World) → stepFit u (lengthsOf w) ≡ Fits
     → stepOf u byte w .world .message ≡ receiveOf messageSize (u .receiver) byte (w .message) .message
-unfolding stepOf receivedOf
-what-the-message-buffer-holds u byte w e =
-    ap (λ f. unless f u w (receivedOf u byte w) .world .message) e
-    ∙ heard-keeps (withReceiver u (receiveOf messageSize (u .receiver) byte (w .message) .receiver)) (receiveOf messageSize (u .receiver) byte (w .message) .heard) (withMessage w (receiveOf messageSize (u .receiver) byte (w .message) .message))
+unfolding answered
+what-the-message-buffer-holds u byte w fits =
+    of-any-call (λ (o : Outcome). o .world .message ≡ receiveOf messageSize (u .receiver) byte (w .message) .message) u byte w
+    (λ answer e. let z : Fits ≡ Unfit answer = sym fits ∙ e in let o : _≡_ {A = ℕ} 0 1 = cc in absurd (omega arith))
+    (λ _. record { taken = refl; elsewhere = refl; dropped = λ answer which number four silent. refl; commanded = λ destination source control field short. refl })
 
 -- A refused set-up hands back a record with which every later call is refused.
 pub a-refused-set-up-is-never-served : (address : ℕ) (w : World) (answer : Answer) → setUpFit address (lengthsOf w) ≡ Unfit answer → (byte : ℕ) (v : World)
     → stepOf (setUpOf address w .unit) byte v ≡ outcome nobody BadAddress v
-unfolding setUpOf stepOf stepFit lengthsFit
-a-refused-set-up-is-never-served address w answer e byte v =
-    ap (λ f. stepOf (unless f nobody w
-    (outcome (record { address = address; mode = Bootloader; «fram_len» = length (w .fram); receiver = fresh }) Taken (withSums w (freshSums (w .fram)))) .unit)
-    byte v) e
+unfolding setUpOf stepOf stepFit lengthsFit judgeOf servedOf
+a-refused-set-up-is-never-served address w answer e byte v = ap (λ f. stepOf (setUpAs f address w .unit) byte v) e

@@ -7,70 +7,70 @@ use Prim.Native.Nat.{ℕ, _+_, _-_, _*_, _/_, _%_, _≤_, _<_}
 use native.Mathlib.Omega.{arith}
 use borrow.Author.Tests.{le-leb, lt-leb, eq-eqb, le-ltb}
 use lib.Dec.{leb, ltb, eqb}
-use lib.ListN.{length, take, drop, getD, length-drop}
+use lib.ListN.{length, take, drop, length-drop}
 use Rattle.crc.specs.Sum.{sumOf}
-use Rattle.line.specs.declared.receiver.Heard.{Heard}
-use Rattle.line.specs.declared.receiver.Heard.the-variants as heard
-use Rattle.line.specs.declared.receiver.Receiver.{Receiver}
 use Rattle.line.proofs.Bounds.{the-count-never-passes-one-above-the-largest}
 use Rattle.line.specs.Framing.{fend}
 use Rattle.line.specs.Receiver.{opened, receiveOf}
-use Rattle.line.specs.Packing.{bodyOf, packedOf}
+use Rattle.line.specs.Packing.{bodyOf, packedOf, messageSize, replySize}
 use Rattle.field.specs.Fields.{word32At, bytes16, bytes32}
 use Rattle.memory.specs.Bytes.{stretch}
-use Rattle.memory.specs.declared.fram.Found.{Found}
-use Rattle.memory.specs.declared.fram.Found.the-variants.{At, Outside}
-use Rattle.memory.specs.Fram.{Kept, kept, blockStart, freshSums, storeOf, rangeSum, placeOf}
+use Rattle.memory.specs.Counts.{channels}
+use Rattle.memory.specs.Edac.{edacSize}
+use Rattle.blocks.specs.declared.Found.{Found}
+use Rattle.blocks.specs.declared.Found.the-variants.{At, Outside}
+use Rattle.blocks.specs.Fram.{Kept, kept, blockStart, freshSums, storeOf, rangeSum, placeOf}
 use Rattle.memory.proofs.Tests.{either-side}
-use Rattle.memory.proofs.Refreshing.{fresh-length, right-sums-stay-right, a-store-keeps-the-memory's-length}
-use Rattle.memory.proofs.Ranges.{a-range-under-right-sums-is-fresh}
-use Rattle.command.specs.declared.Mode.{Mode}
-use Rattle.command.specs.Outcome as command
+use Rattle.blocks.proofs.Refreshing.{fresh-length, right-sums-stay-right, a-store-keeps-the-memory's-length}
+use Rattle.blocks.proofs.Ranges.{a-range-under-right-sums-is-fresh}
+use Rattle.carrying.specs.declared.Mode.{Mode}
+use Rattle.carrying.specs.Ending.{longestData, Ending, done, refused, unfitted, atPlace}
+use Rattle.carrying.specs.Held.{Held, held, inside, reading, onEdac}
+use Rattle.carrying.proofs.Room.{either-way}
+use Rattle.fram_commands.specs.Peek.{peekOf}
+use Rattle.fram_commands.specs.Poke.{pokeOf}
+use Rattle.fram_commands.specs.Crc.{rangeSize, crcOf}
+use Rattle.fram_commands.proofs.Ways.{a-place-lies-inside, crc-inside}
+use Rattle.file_commands.specs.ReadFile.{readFileOf}
+use Rattle.file_commands.specs.WriteFile.{writeFileOf}
+use Rattle.edac_commands.specs.ReadEdac.{readEdacOf}
+use Rattle.edac_commands.specs.WriteEdac.{writeEdacOf}
+use Rattle.edac_commands.specs.Gather.{gatherOf}
 use Rattle.command.specs.Ping.{pingOf}
 use Rattle.command.specs.Init.{initOf}
-use Rattle.command.specs.Peek.{peekOf}
 use Rattle.command.specs.Diagnostic.{diagnosticOf}
-use Rattle.command.specs.Poke.{pokeOf}
-use Rattle.command.specs.Crc.{bytesFrom, crcOf}
-use Rattle.command.specs.Command.{Held, held, inside, reading, framCommandOf, edacCommandOf, inApplication, commandOf}
-use Rattle.command.proofs.Ways.{a-place-lies-inside, crc-inside}
-use Rattle.unit.specs.declared.Unit.{Unit}
-use Rattle.unit.specs.declared.Answer.the-variants.{Taken, Elsewhere}
-use Rattle.unit.specs.declared.Fit.{Fit}
-use Rattle.unit.specs.declared.Fit.the-variants.{Fits, Unfit}
-use Rattle.unit.specs.Replies.{codeOf, polls, sealed, replyMessage}
-use Rattle.unit.specs.Answers.{sentOf}
-use Rattle.unit.specs.World.{World, lengthsOf, Outcome, outcome, withReceiver, withMessage, heldOf}
-use Rattle.unit.specs.Fitting.{lengthsFit, channels, messageSize, replySize, framFits, setUpFit, stepFit}
-use Rattle.memory.specs.Edac.{edacSize}
-use Rattle.unit.specs.Runs.{longestData, firstOfFram, answered, commandedOf, soundOf, runOf}
-use Rattle.unit.specs.Steps.{unless, setUpOf, heardOf, receivedOf, stepOf}
-use Rattle.unit.proofs.Serving.{Passed, all-passed, a-served-set-up-fits, set-up-served}
-use Rattle.demands.specs.Calls.{Lent, lentTo, Fed, fedOf, bytesOf, delivering, Suits, AllSuit, Idle, Bytes, Call, with-its-memory, with-another, Own, own, lending, ownOf, calledOf, Right, Inside}
-use Rattle.demands.proofs.Cases.{either-way}
+use Rattle.command.specs.Command.{commandOf}
+use Rattle.command.proofs.Codes.{of-any-command, in-either-mode}
+use Rattle.answer.specs.declared.Answer.the-variants.{Elsewhere}
+use Rattle.answer.specs.Answers.{sentOf}
+use Rattle.judging.specs.declared.Unit.{Unit}
+use Rattle.judging.specs.declared.fitting.Fit.the-variants.{Fits}
+use Rattle.judging.specs.Fitting.{framFits, largestCount, lengthsFit, setUpFit}
+use Rattle.judging.specs.Judging.{withReceiver}
+use Rattle.judging.proofs.Serving.{Passed, all-passed, a-served-set-up-fits}
+use Rattle.replying.specs.Replies.{codeOf, polls, sealed, replyMessage}
+use Rattle.unit.specs.World.{World, lengthsOf, Outcome, outcome, withMessage, heldOf}
+use Rattle.unit.specs.Steps.{setUpOf, firstOfFram, answered, orderedOf, stepOf}
+use Rattle.unit.proofs.Serving.{set-up-served}
+use Rattle.demands.specs.Calls.{Call, lentTo, Fed, fedOf, bytesOf, delivering, Suits, AllSuit, Idle, Bytes, Lending, its-memory, another, Own, own, withMemory, ownOf, calledOf, Right, Inside}
+use Rattle.demands.proofs.Cases.{of-any-call}
 use Rattle.demands.proofs.DemandOne.{what-every-answer-leaves}
-use Rattle.demands.proofs.DemandTwo.{heard-keeps-the-receiver, a-packed-command-is-carried-out, what-is-sent-is-the-packed-answer}
+use Rattle.demands.proofs.DemandTwo.{a-packed-command-is-carried-out, what-is-sent-is-the-packed-answer}
 
 -- what is kept from call to call: right sums, and the memory's length
 abbrev Good : ℕ → Kept → Type 0
 Good size memory = Right memory × (length (memory .fram) ≡ size)
 
 -- a command that is done keeps what its memory has
-abbrev Keeps : {M : Type 0} → (M → Type 0) → command.Outcome M → Type 0
-Keeps P (command.done reply after) = P after
-Keeps P command.refused = 0 ≤ 0
-Keeps P command.unfitted = 0 ≤ 0
+abbrev Keeps : {M : Type 0} → (M → Type 0) → Ending M → Type 0
+Keeps P (done reply after) = P after
+Keeps P refused = 0 ≤ 0
+Keeps P unfitted = 0 ≤ 0
 
-keeps-inside : {M N : Type 0} (P : M → Type 0) (Q : N → Type 0) (f : M → N) → ((m : M) → P m → Q (f m)) → (o : command.Outcome M) → Keeps P o → Keeps Q (inside f o)
-keeps-inside P Q f g (command.done reply after) k = g after k
-keeps-inside P Q f g command.refused k = k
-keeps-inside P Q f g command.unfitted k = k
-
--- a command that changes nothing
-keeps-reading : {M : Type 0} (Q : M → Type 0) (m : M) → Q m → (o : command.Outcome (Prim.Unit {0})) → Keeps Q (reading m o)
-keeps-reading Q m q (command.done reply after) = q
-keeps-reading Q m q command.refused = omega arith
-keeps-reading Q m q command.unfitted = omega arith
+keeps-inside : {M N : Type 0} (P : M → Type 0) (Q : N → Type 0) (f : M → N) → ((m : M) → P m → Q (f m)) → (o : Ending M) → Keeps P o → Keeps Q (inside f o)
+keeps-inside P Q f g (done reply after) k = g after k
+keeps-inside P Q f g refused k = k
+keeps-inside P Q f g unfitted k = k
 
 a-store-keeps-right : (size : ℕ) (memory : Kept) (at : ℕ) (bytes : List ℕ) → Good size memory → at + length bytes ≤ length (memory .fram) → Good size (storeOf memory at bytes)
 a-store-keeps-right size memory at bytes good fits = (
@@ -88,95 +88,99 @@ poke-keeps size room first memory field good =
     (λ _. placed (placeOf first (length (memory .fram)) (word32At field 0) (length field - 4)) refl short))
   where
     placed : (f : Found) → placeOf first (length (memory .fram)) (word32At field 0) (length field - 4) ≡ f → ltb (length field) 5 ≡ false
-        → Keeps (Good size) (command.atPlace f (λ at. command.done field (storeOf memory at (drop 4 field))))
+        → Keeps (Good size) (atPlace f (λ at. done field (storeOf memory at (drop 4 field))))
     placed Outside e short = omega arith
     placed (At at) e short =
         a-store-keeps-right size memory at (drop 4 field) good
         (rw length-drop (a-place-lies-inside first (length (memory .fram)) (word32At field 0) (length field - 4) at e))
 
-fram-command-keeps : (size room first code : ℕ) (diagnostics : List ℕ) (memory : Kept) (field : List ℕ) → Good size memory
-    → Keeps (Good size) (framCommandOf room first code diagnostics memory field)
-unfolding framCommandOf
-fram-command-keeps size room first code diagnostics memory field good =
-    either-way (Keeps (Good size)) (eqb code 0x00) _ _ (λ _. keeps-reading (Good size) memory good pingOf)
-    (λ _. either-way (Keeps (Good size)) (eqb code 0x02) _ _ (λ _. keeps-reading (Good size) memory good (peekOf room first (memory .fram) field))
-    (λ _. either-way (Keeps (Good size)) (eqb code 0x03) _ _ (λ _. poke-keeps size room first memory field good)
-    (λ _. either-way (Keeps (Good size)) (eqb code 0x04) _ _ (λ _. keeps-reading (Good size) memory good (diagnosticOf room diagnostics field))
-    (λ _. either-way (Keeps (Good size)) (eqb code 0x06) _ _ (λ _. keeps-reading (Good size) memory good (crcOf first memory field))
-    (λ _. omega arith)))))
-
 -- a command on another part leaves the memory as it is
-keeps-apart : {M : Type 0} (size : ℕ) (memory : Kept) (f : M → Held) → ((m : M) → f m .memory ≡ memory) → Good size memory → (o : command.Outcome M)
+keeps-apart : {M : Type 0} (size : ℕ) (memory : Kept) (f : M → Held) → ((m : M) → f m .memory ≡ memory) → Good size memory → (o : Ending M)
     → Keeps (λ h. Good size (h .memory)) (inside f o)
-keeps-apart size memory f same good (command.done reply after) = subst (Good size) (sym (same after)) good
-keeps-apart size memory f same good command.refused = omega arith
-keeps-apart size memory f same good command.unfitted = omega arith
+keeps-apart size memory f same good (done reply after) = subst (Good size) (sym (same after)) good
+keeps-apart size memory f same good refused = omega arith
+keeps-apart size memory f same good unfitted = omega arith
 
 command-keeps : (size room first code : ℕ) (diagnostics : List ℕ) (now : Held) (field : List ℕ) → Good size (now .memory)
     → Keeps (λ h. Good size (h .memory)) (commandOf room first code diagnostics now field)
-unfolding commandOf
 command-keeps size room first code diagnostics now field good =
-    either-way (Keeps (λ h. Good size (h .memory))) (eqb code 0x01) _ _ (λ _. keeps-apart size (now .memory) (λ mode. held mode (now .edac) (now .memory)) (λ m. refl) good (initOf (now .mode) field))
-    (λ _. either-way (Keeps (λ h. Good size (h .memory))) (ltb code 0x07) _ _
-    (λ _. keeps-inside (Good size) (λ h. Good size (h .memory)) (λ memory. held (now .mode) (now .edac) memory) (λ m g. g)
-    (framCommandOf room first code diagnostics (now .memory) field)
-    (fram-command-keeps size room first code diagnostics (now .memory) field good))
-    (λ _. keeps-apart size (now .memory) (λ edac. held (now .mode) edac (now .memory)) (λ m. refl) good
-    (inApplication (now .mode) (edacCommandOf room code (now .edac) field))))
+    of-any-command (Keeps (λ h. Good size (h .memory))) room first code diagnostics now field (omega arith) (
+      still pingOf,
+      (
+        keeps-apart size (now .memory) (λ mode. held mode (now .edac) (now .memory)) (λ m. refl) good (initOf (now .mode) field),
+        (
+          still (peekOf room first (now .memory .fram) field),
+          (
+            keeps-inside (Good size) (λ h. Good size (h .memory)) (λ memory. held (now .mode) (now .edac) memory) (λ m g. g) (pokeOf room first (now .memory) field)
+                (poke-keeps size room first (now .memory) field good),
+            (
+              still (diagnosticOf room diagnostics field),
+              (
+                still (crcOf first (now .memory) field),
+                (
+                  still (readFileOf room (now .edac) field),
+                  (
+                    in-edac (writeFileOf room (now .edac) field),
+                    (
+                      still (readEdacOf room (now .edac) field),
+                      (in-edac (writeEdacOf room (now .edac) field), (still (gatherOf room (now .edac) field), tt)),
+                    ),
+                  ),
+                ),
+              ),
+            ),
+          ),
+        ),
+      ),
+    )
+  where
+    still : (o : Ending (Prim.Unit {0})) → Keeps (λ h. Good size (h .memory)) (reading now o)
+    still o = keeps-apart size (now .memory) (λ _. now) (λ m. refl) good o
+
+    in-edac : (o : Ending (List ℕ)) → Keeps (λ h. Good size (h .memory)) (onEdac now o)
+    in-edac o = keeps-apart size (now .memory) (λ edac. held (now .mode) edac (now .memory)) (λ m. refl) good o
 
 -- ---- and so does one call
 
 abbrev GoodWorld : ℕ → World → Type 0
 GoodWorld size w = Good size (kept (w .fram) (w .sums))
 
-answered-keeps : (size : ℕ) (u : Unit) (destination source control : ℕ) (field : List ℕ) (o : command.Outcome Held) (w : World) → GoodWorld size w
+answered-keeps : (size : ℕ) (u : Unit) (destination source control : ℕ) (field : List ℕ) (o : Ending Held) (w : World) → GoodWorld size w
     → Keeps (λ h. Good size (h .memory)) o → GoodWorld size (answered u destination source control field o w .world)
 unfolding answered
-answered-keeps size u destination source control field (command.done reply after) w good k = k
-answered-keeps size u destination source control field command.refused w good k = good
-answered-keeps size u destination source control field command.unfitted w good k = good
-
-heard-keeps : (size : ℕ) (u : Unit) (h : Heard) (w : World) → GoodWorld size w → GoodWorld size (heardOf u h w .world)
-unfolding heardOf runOf commandedOf
-heard-keeps size u heard.Taken w good = good
-heard-keeps size u heard.Empty w good = good
-heard-keeps size u heard.Framing w good = good
-heard-keeps size u (heard.Message count) w good =
-    either-way (λ (o : Outcome). GoodWorld size (o .world)) (ltb count 5) _ _ (λ _. good)
-    (λ _. either-way (λ (o : Outcome). GoodWorld size (o .world)) (ltb messageSize count) _ _ (λ _. good)
-    (λ _. either-way (λ (o : Outcome). GoodWorld size (o .world)) (soundOf count (w .message)) _ _
-    (λ _. either-way (λ (o : Outcome). GoodWorld size (o .world)) (eqb (getD (w .message) 0 0) (u .address)) _ _
-    (λ _. answered-keeps size u _ _ _ _ _ w good (command-keeps size longestData firstOfFram _ (w .diagnostics) (heldOf u w) _ good))
-    (λ _. good))
-    (λ _. good)))
+answered-keeps size u destination source control field (done reply after) w good k = k
+answered-keeps size u destination source control field refused w good k = good
+answered-keeps size u destination source control field unfitted w good k = good
 
 step-keeps : (size : ℕ) (u : Unit) (byte : ℕ) (w : World) → GoodWorld size w → GoodWorld size (stepOf u byte w .world)
-unfolding stepOf receivedOf
-step-keeps size u byte w good = apart (stepFit u (lengthsOf w))
-  where
-    apart : (f : Fit) → GoodWorld size (unless f u w (receivedOf u byte w) .world)
-    apart (Unfit answer) = good
-    apart Fits =
-        heard-keeps size (withReceiver u (receiveOf messageSize (u .receiver) byte (w .message) .receiver)) (receiveOf messageSize (u .receiver) byte (w .message) .heard)
-        (withMessage w (receiveOf messageSize (u .receiver) byte (w .message) .message)) good
+step-keeps size u byte w good =
+    of-any-call (λ (o : Outcome). GoodWorld size (o .world)) u byte w (λ answer e. good)
+    (λ _.
+    let got = receiveOf messageSize (u .receiver) byte (w .message) in
+    let next = withReceiver u (got .receiver) in
+    let lent = withMessage w (got .message) in
+    record {
+      taken = good;
+      elsewhere = good;
+      dropped = λ answer which number four silent. good;
+      commanded = λ destination source control field short.
+          answered-keeps size next destination source control field (commandOf longestData firstOfFram (codeOf control) (w .diagnostics) (heldOf next lent) field) lent good
+          (command-keeps size longestData firstOfFram (codeOf control) (w .diagnostics) (heldOf next lent) field good);
+    })
 
-step-low : (u : Unit) (byte : ℕ) (w : World) → u .receiver .count ≤ 1034 → stepOf u byte w .unit .receiver .count ≤ 1034
-unfolding stepOf receivedOf
-step-low u byte w low = apart (stepFit u (lengthsOf w))
-  where
-    apart : (f : Fit) → unless f u w (receivedOf u byte w) .unit .receiver .count ≤ 1034
-    apart (Unfit answer) = low
-    apart Fits =
-        let next = receiveOf messageSize (u .receiver) byte (w .message) in
-        subst (λ (r : Receiver). r .count ≤ 1034) (sym (heard-keeps-the-receiver (withReceiver u (next .receiver)) (next .heard) (withMessage w (next .message))))
-        (the-count-never-passes-one-above-the-largest messageSize (byte ∷ []) (u .receiver) (w .message) low)
+step-low : (u : Unit) (byte : ℕ) (w : World) → u .receiver .count ≤ largestCount → stepOf u byte w .unit .receiver .count ≤ largestCount
+unfolding answered
+step-low u byte w low =
+    let still = the-count-never-passes-one-above-the-largest messageSize (byte ∷ []) (u .receiver) (w .message) low in
+    of-any-call (λ (o : Outcome). o .unit .receiver .count ≤ largestCount) u byte w (λ answer e. low)
+    (λ _. record { taken = still; elsewhere = still; dropped = λ answer which number four silent. still; commanded = λ destination source control field short. still })
 
 -- what a unit has from its set-up on
 record Goes (address size : ℕ) (s : Own) : Type 0 where
   good : Good size (s .memory)
   same-address : s .unit .address ≡ address
   same-length : s .unit .«fram_len» ≡ size
-  low : s .unit .receiver .count ≤ 1034
+  low : s .unit .receiver .count ≤ largestCount
 
 goes-on : (address size : ℕ) (s : Own) (byte : ℕ) (w : World) (memory : Kept) → Goes address size s → Good size memory → Goes address size (own (stepOf (s .unit) byte w .unit) memory)
 goes-on address size s byte w memory g good =
@@ -188,14 +192,14 @@ goes-on address size s byte w memory g good =
     }
 
 -- and any calls
-calls-keep : (address size : ℕ) (calls : List Call) (s : Own) → Goes address size s → Goes address size (calledOf s calls)
+calls-keep : (address size : ℕ) (calls : List Lending) (s : Own) → Goes address size s → Goes address size (calledOf s calls)
 calls-keep address size [] s g = g
-calls-keep address size (with-its-memory c message ∷ calls) s g =
-    let o = stepOf (s .unit) (c .byte) (lending s c message) in
+calls-keep address size (its-memory c ∷ calls) s g =
+    let o = stepOf (s .unit) (c .byte) (withMemory (c .lent) (s .memory)) in
     calls-keep address size calls (ownOf o)
-    (goes-on address size s (c .byte) (lending s c message) (kept (o .world .fram) (o .world .sums)) g (step-keeps size (s .unit) (c .byte) (lending s c message) (g .good)))
-calls-keep address size (with-another byte w ∷ calls) s g =
-    calls-keep address size calls (own (stepOf (s .unit) byte w .unit) (s .memory)) (goes-on address size s byte w (s .memory) g (g .good))
+    (goes-on address size s (c .byte) (withMemory (c .lent) (s .memory)) (kept (o .world .fram) (o .world .sums)) g (step-keeps size (s .unit) (c .byte) (withMemory (c .lent) (s .memory)) (g .good)))
+calls-keep address size (another c ∷ calls) s g =
+    calls-keep address size calls (own (stepOf (s .unit) (c .byte) (c .lent) .unit) (s .memory)) (goes-on address size s (c .byte) (c .lent) (s .memory) g (g .good))
 
 -- set-up makes all sums right
 set-up-goes : (address : ℕ) (w : World) → setUpFit address (lengthsOf w) ≡ Fits → Goes address (length (w .fram)) (ownOf (setUpOf address w))
@@ -206,7 +210,7 @@ set-up-goes address w e =
 -- Demand 3, on the sums. Take a unit that was set up, and let nothing but the unit change its FRAM, sums or record. After any calls,
 -- whatever bytes and whatever else they lend, of any length, refused or not, each block's kept sum is the CRC of that block as it now
 -- stands.
-pub after-any-calls-the-sums-are-right : (address : ℕ) (w : World) → setUpFit address (lengthsOf w) ≡ Fits → (calls : List Call)
+pub after-any-calls-the-sums-are-right : (address : ℕ) (w : World) → setUpFit address (lengthsOf w) ≡ Fits → (calls : List Lending)
     → Right (calledOf (ownOf (setUpOf address w)) calls .memory)
 after-any-calls-the-sums-are-right address w e calls =
     calls-keep address (length (w .fram)) calls (ownOf (setUpOf address w)) (set-up-goes address w e) .good .0
@@ -232,10 +236,10 @@ reads-back-second m n h = four-bytes n h
 
 -- the place of such a range
 placed : (size first last : ℕ) → firstOfFram ≤ first → first ≤ last → last < firstOfFram + size
-    → placeOf firstOfFram size first (bytesFrom first last) ≡ At (first - firstOfFram)
+    → placeOf firstOfFram size first (rangeSize first last) ≡ At (first - firstOfFram)
 unfolding placeOf
 placed size first last starts forward ends =
-    simp (le-leb firstOfFram first starts, le-leb (first + bytesFrom first last) (firstOfFram + size) (omega arith))
+    simp (le-leb firstOfFram first starts, le-leb (first + rangeSize first last) (firstOfFram + size) (omega arith))
 
 both-no : (a c : Bool) → (a && false && c) ≡ false
 both-no true c = refl
@@ -248,7 +252,7 @@ no-longer size fits =
     let no : framFits size ≡ false = ap (λ t. leb 256 size && t && eqb (size % 256) 0) (lt-leb size 262144 long) ∙ both-no (leb 256 size) (eqb (size % 256) 0) in
     absurd (false≢true (sym no ∙ fits)))
 
-done-is-not-unfitted : {M : Type 0} {reply : List ℕ} {after : M} → command.done reply after ≡ command.unfitted → ⊥
+done-is-not-unfitted : {M : Type 0} {reply : List ℕ} {after : M} → done reply after ≡ unfitted → ⊥
 done-is-not-unfitted e = let z : _≡_ {A = ℕ} 0 1 = cc in absurd (omega arith)
 
 both-yes : {a b : Bool} → a ≡ true → b ≡ true → (a && b) ≡ true
@@ -256,34 +260,36 @@ both-yes {a} {b} p q = ap₂ _&&_ p q
 
 module _ (blocks : ℕ) (memory : Kept) (right : Right memory) (whole : length (memory .fram) ≡ blockStart blocks) (small : length (memory .fram) ≤ 262144)
     (first last : ℕ) (range : Inside memory first last) where
-  fresh-range : rangeSum memory (first - firstOfFram) (first - firstOfFram + bytesFrom first last) ≡ sumOf (stretch (first - firstOfFram) (last - first + 1) (memory .fram))
+  fresh-range : rangeSum memory (first - firstOfFram) (first - firstOfFram + rangeSize first last) ≡ sumOf (stretch (first - firstOfFram) (last - first + 1) (memory .fram))
   fresh-range =
       let starts = range .starts in
       let forward = range .forward in
       let ends = range .ends in
-      let wide : first - firstOfFram + bytesFrom first last - (first - firstOfFram) ≡ last - first + 1 = omega arith in
-      ap (λ s. rangeSum (kept (memory .fram) s) (first - firstOfFram) (first - firstOfFram + bytesFrom first last)) right
-      ∙ a-range-under-right-sums-is-fresh (memory .fram) blocks (first - firstOfFram) (first - firstOfFram + bytesFrom first last) whole (omega arith) (omega arith)
+      let wide : first - firstOfFram + rangeSize first last - (first - firstOfFram) ≡ last - first + 1 = omega arith in
+      ap (λ s. rangeSum (kept (memory .fram) s) (first - firstOfFram) (first - firstOfFram + rangeSize first last)) right
+      ∙ a-range-under-right-sums-is-fresh (memory .fram) blocks (first - firstOfFram) (first - firstOfFram + rangeSize first last) whole (omega arith) (omega arith)
       ∙ ap (λ n. sumOf (stretch (first - firstOfFram) n (memory .fram))) wide
 
   a-fresh-answer : crcOf firstOfFram memory (bytes32 first ++ bytes32 last)
-      ≡ command.done ((bytes32 first ++ bytes32 last) ++ bytes16 (sumOf (stretch (first - firstOfFram) (last - first + 1) (memory .fram)))) tt
+      ≡ done ((bytes32 first ++ bytes32 last) ++ bytes16 (sumOf (stretch (first - firstOfFram) (last - first + 1) (memory .fram)))) tt
   a-fresh-answer =
       let starts = range .starts in
       let forward = range .forward in
       let ends = range .ends in
       let one : word32At (bytes32 first ++ bytes32 last) 0 ≡ first = reads-back first (bytes32 last) (omega arith) in
       let two : word32At (bytes32 first ++ bytes32 last) 4 ≡ last = reads-back-second first last (omega arith) in
-      let there : placeOf firstOfFram (length (memory .fram)) (word32At (bytes32 first ++ bytes32 last) 0) (bytesFrom (word32At (bytes32 first ++ bytes32 last) 0) (word32At (bytes32 first ++ bytes32 last) 4)) ≡ At (first - firstOfFram)
-      = ap₂ (λ f l. placeOf firstOfFram (length (memory .fram)) f (bytesFrom f l)) one two ∙ placed (length (memory .fram)) first last starts forward ends in
+      let there : placeOf firstOfFram (length (memory .fram)) (word32At (bytes32 first ++ bytes32 last) 0) (rangeSize (word32At (bytes32 first ++ bytes32 last) 0) (word32At (bytes32 first ++ bytes32 last) 4)) ≡ At (first - firstOfFram)
+      = ap₂ (λ f l. placeOf firstOfFram (length (memory .fram)) f (rangeSize f l)) one two ∙ placed (length (memory .fram)) first last starts forward ends in
       crc-inside firstOfFram memory (bytes32 first ++ bytes32 last) refl (omega arith) (first - firstOfFram) there
-      ∙ ap (λ n. command.done ((bytes32 first ++ bytes32 last) ++ bytes16 n) tt)
-      (ap₂ (λ f l. rangeSum memory (first - firstOfFram) (first - firstOfFram + bytesFrom f l)) one two ∙ fresh-range)
+      ∙ ap (λ n. done ((bytes32 first ++ bytes32 last) ++ bytes16 n) tt)
+      (ap₂ (λ f l. rangeSum memory (first - firstOfFram) (first - firstOfFram + rangeSize f l)) one two ∙ fresh-range)
 
   the-command-answers-it : (mode : Mode) (edac diagnostics : List ℕ) → commandOf longestData firstOfFram 0x06 diagnostics (held mode edac memory) (bytes32 first ++ bytes32 last)
-      ≡ command.done ((bytes32 first ++ bytes32 last) ++ bytes16 (sumOf (stretch (first - firstOfFram) (last - first + 1) (memory .fram)))) (held mode edac memory)
-  unfolding commandOf framCommandOf
-  the-command-answers-it mode edac diagnostics = ap (λ o. inside (λ m. held mode edac m) (reading memory o)) a-fresh-answer
+      ≡ done ((bytes32 first ++ bytes32 last) ++ bytes16 (sumOf (stretch (first - firstOfFram) (last - first + 1) (memory .fram)))) (held mode edac memory)
+  the-command-answers-it mode edac diagnostics =
+      in-either-mode longestData firstOfFram 0x06 diagnostics (held mode edac memory) (bytes32 first ++ bytes32 last) 0x06
+      (reading (held mode edac memory) (crcOf firstOfFram memory (bytes32 first ++ bytes32 last))) refl refl
+      ∙ ap (reading (held mode edac memory)) a-fresh-answer
 
 byte-below : (n : ℕ) → n % 256 < 256
 byte-below n = omega arith
@@ -305,7 +311,7 @@ eight-bytes first last = (
 
 -- ---- after any calls on a unit that was set up
 
-module _ (address : ℕ) (w : World) (e : setUpFit address (lengthsOf w) ≡ Fits) (calls : List Call) where
+module _ (address : ℕ) (w : World) (e : setUpFit address (lengthsOf w) ≡ Fits) (calls : List Lending) where
   abbrev now : Own
   now = calledOf (ownOf (setUpOf address w)) calls
 
@@ -320,43 +326,43 @@ module _ (address : ℕ) (w : World) (e : setUpFit address (lengthsOf w) ≡ Fit
   -- diagnostics, is done, changes nothing and answers the CRC of the bytes now stored there, worked out afresh.
   pub the-CRC-answered-is-fresh : (edac diagnostics : List ℕ) (first last : ℕ) → Inside (now .memory) first last
       → commandOf longestData firstOfFram 0x06 diagnostics (held (now .unit .mode) edac (now .memory)) (bytes32 first ++ bytes32 last)
-      ≡ command.done ((bytes32 first ++ bytes32 last) ++ bytes16 (sumOf (stretch (first - firstOfFram) (last - first + 1) (now .memory .fram))))
+      ≡ done ((bytes32 first ++ bytes32 last) ++ bytes16 (sumOf (stretch (first - firstOfFram) (last - first + 1) (now .memory .fram))))
       (held (now .unit .mode) edac (now .memory))
   the-CRC-answered-is-fresh edac diagnostics first last range =
-      the-command-answers-it (length (w .sums)) (now .memory) (goes .good .0) (goes .good .1 ∙ a-served-set-up-fits address w e .sums-fit)
+      the-command-answers-it (length (w .sums)) (now .memory) (goes .good .0) (goes .good .1 ∙ a-served-set-up-fits address (lengthsOf w) e .sums-fit)
       (subst (λ n. n ≤ 262144) (sym (goes .good .1)) (no-longer (length (w .fram)) (passed .fram-tested)))
       first last range (now .unit .mode) edac diagnostics
 
   -- Such a unit goes on being served: a call that lends its FRAM and sums, and the rest in the right lengths, is not refused.
-  pub a-unit-that-was-set-up-goes-on-being-served : (c : Lent) (message : List ℕ) → length (c .edac) ≡ edacSize → c .fram ≡ now .memory .fram
-      → c .sums ≡ now .memory .sums → length (c .diagnostics) ≡ channels → messageSize ≤ length message → replySize ≤ length (c .reply)
+  pub a-unit-that-was-set-up-goes-on-being-served : (c : Call) (message : List ℕ) → length (c .lent .edac) ≡ edacSize → c .lent .fram ≡ now .memory .fram
+      → c .lent .sums ≡ now .memory .sums → length (c .lent .diagnostics) ≡ channels → messageSize ≤ length message → replySize ≤ length (c .lent .reply)
       → Suits (now .unit .address) (now .unit .«fram_len») (length message) c
   unfolding lengthsFit freshSums
   a-unit-that-was-set-up-goes-on-being-served c message edac fram sums diagnostics long room =
-      let size : length (c .fram) ≡ length (w .fram) = ap length fram ∙ goes .good .1 in
-      let whole : length (w .fram) ≡ blockStart (length (w .sums)) = a-served-set-up-fits address w e .sums-fit in
-      let fresh : length (c .sums) ≡ length (now .memory .fram) / 256 =
+      let size : length (c .lent .fram) ≡ length (w .fram) = ap length fram ∙ goes .good .1 in
+      let whole : length (w .fram) ≡ blockStart (length (w .sums)) = a-served-set-up-fits address (lengthsOf w) e .sums-fit in
+      let fresh : length (c .lent .sums) ≡ length (now .memory .fram) / 256 =
       ap length sums ∙ ap length (goes .good .0) ∙ fresh-length 0 (length (now .memory .fram) / 256) (now .memory .fram)
       in
-      let blocks : blockStart (length (c .sums)) ≡ length (c .fram) = rw (fresh, goes .good .1, size) (omega arith) in
+      let blocks : blockStart (length (c .lent .sums)) ≡ length (c .lent .fram) = rw (fresh, goes .good .1, size) (omega arith) in
       simp (
         goes .same-address,
         passed .address-allowed,
-        eq-eqb (length (c .edac)) edacSize edac,
+        eq-eqb (length (c .lent .edac)) edacSize edac,
         ap₂ (λ (n m : ℕ). framFits n && eqb n m) size (goes .same-length) ∙ both-yes (passed .fram-tested) (eq-eqb (length (w .fram)) (length (w .fram)) refl),
-        eq-eqb (blockStart (length (c .sums))) (length (c .fram)) blocks,
-        eq-eqb (length (c .diagnostics)) channels diagnostics,
+        eq-eqb (blockStart (length (c .lent .sums))) (length (c .lent .fram)) blocks,
+        eq-eqb (length (c .lent .diagnostics)) channels diagnostics,
         le-ltb (length message) messageSize long,
-        le-ltb (length (c .reply)) replySize room,
+        le-ltb (length (c .lent .reply)) replySize room,
       )
 
   -- The same on the line. Let this unit, with nothing open, be sent a CRC command for its own address, from any source, for a range
   -- inside FRAM, by calls that are served; each may lend another thing, but the message buffer is the same throughout and the last
   -- call lends the unit's own FRAM and sums. All bytes are taken but the last, which does the command and answers, with the range as it
   -- was asked, the CRC of the bytes now stored there.
-  module _ (sending : List Lent) (c : Lent) (message : List ℕ) (source control first last : ℕ) (range : Inside (now .memory) first last)
+  module _ (sending : List Call) (c : Call) (message : List ℕ) (source control first last : ℕ) (range : Inside (now .memory) first last)
       (suiting : AllSuit (now .unit .address) (now .unit .«fram_len») (length message) sending) (suits : Suits (now .unit .address) (now .unit .«fram_len») (length message) c)
-      (its-fram : c .fram ≡ now .memory .fram) (its-sums : c .sums ≡ now .memory .sums) (idle : Idle (now .unit .receiver))
+      (its-fram : c .lent .fram ≡ now .memory .fram) (its-sums : c .lent .sums ≡ now .memory .sums) (idle : Idle (now .unit .receiver))
       (head : Bytes (now .unit .address ∷ source ∷ control ∷ [])) (code : codeOf control ≡ 0x06) where
     abbrev asked : List ℕ
     asked = bytes32 first ++ bytes32 last
@@ -370,24 +376,23 @@ module _ (address : ℕ) (w : World) (e : setUpFit address (lengthsOf w) ≡ Fit
     abbrev after : World
     after = lentTo (sent ++ drop (length sent) message) c
 
-    came : commandOf longestData firstOfFram (codeOf control) (c .diagnostics) (heldOf (withReceiver (now .unit) opened) after) asked
-        ≡ command.done answer (held (now .unit .mode) (c .edac) (now .memory))
+    came : commandOf longestData firstOfFram (codeOf control) (c .lent .diagnostics) (heldOf (withReceiver (now .unit) opened) after) asked
+        ≡ done answer (held (now .unit .mode) (c .lent .edac) (now .memory))
     came =
-        ap₂ (λ (f s : List ℕ). commandOf longestData firstOfFram (codeOf control) (c .diagnostics) (held (now .unit .mode) (c .edac) (kept f s)) asked) its-fram its-sums
-        ∙ ap (λ (n : ℕ). commandOf longestData firstOfFram n (c .diagnostics) (held (now .unit .mode) (c .edac) (now .memory)) asked) code
-        ∙ the-CRC-answered-is-fresh (c .edac) (c .diagnostics) first last range
+        ap₂ (λ (f s : List ℕ). commandOf longestData firstOfFram (codeOf control) (c .lent .diagnostics) (held (now .unit .mode) (c .lent .edac) (kept f s)) asked) its-fram its-sums
+        ∙ ap (λ (n : ℕ). commandOf longestData firstOfFram n (c .lent .diagnostics) (held (now .unit .mode) (c .lent .edac) (now .memory)) asked) code
+        ∙ the-CRC-answered-is-fresh (c .lent .edac) (c .lent .diagnostics) first last range
 
     pub the-CRC-on-the-line-is-fresh : bytesOf sending ≡ fend ∷ bodyOf sent → c .byte ≡ fend
         → fedOf (now .unit) message sending c
         ≡ delivering (length sending)
         (answered (withReceiver (now .unit) opened) (now .unit .address) source control asked
-        (command.done answer (held (now .unit .mode) (c .edac) (now .memory))) after)
+        (done answer (held (now .unit .mode) (c .lent .edac) (now .memory))) after)
     the-CRC-on-the-line-is-fresh is ends =
         a-packed-command-is-carried-out (now .unit) message sending c (goes .low) suiting suits ends (now .unit .address) source control asked
         (head .0, (head .1 .0, (head .1 .1 .0, eight-bytes first last))) (omega arith) idle is
         ∙ ap (delivering (length sending))
-        (ap (λ t. cond t (answered (withReceiver (now .unit) opened) (now .unit .address) source control asked
-        (commandOf longestData firstOfFram (codeOf control) (c .diagnostics) (heldOf (withReceiver (now .unit) opened) after) asked) after)
+        (ap (λ t. cond t (orderedOf (withReceiver (now .unit) opened) (now .unit .address) source control asked after)
         (outcome (withReceiver (now .unit) opened) Elsewhere after)) (eq-eqb (now .unit .address) (now .unit .address) refl)
         ∙ ap (λ o. answered (withReceiver (now .unit) opened) (now .unit .address) source control asked o after) came)
 
@@ -398,4 +403,4 @@ module _ (address : ℕ) (w : World) (e : setUpFit address (lengthsOf w) ≡ Fit
     the-CRC-sent-is-fresh is ends polled =
         ap (λ (f : Fed). take (sentOf (f .last .answer)) (f .last .world .reply)) (the-CRC-on-the-line-is-fresh is ends)
         ∙ what-is-sent-is-the-packed-answer (withReceiver (now .unit) opened) (now .unit .address) source control asked after polled
-        (command.done answer (held (now .unit .mode) (c .edac) (now .memory))) (λ wrong. done-is-not-unfitted wrong)
+        (done answer (held (now .unit .mode) (c .lent .edac) (now .memory))) (λ wrong. done-is-not-unfitted wrong)

@@ -1,70 +1,71 @@
 -- Demand 2: a message that is packed and sent to the unit is judged and carried out as 01 says, and what the unit packs is received
 -- back. Assumes nothing.
 use mathlib.Core.Path.{_≡_, refl, sym, ap, ap₂, _∙_, subst}
-use mathlib.Core.Bool.{true, false, cond}
+use mathlib.Core.Bool.{Bool, true, false, cond}
 use mathlib.Core.Logic.{inl, inr}
 use mathlib.Core.List.{List, [], _∷_, _++_, append-assoc}
 use Prim.Native.Nat.{ℕ, suc, _+_, _-_, _*_, _/_, _%_, _^_, _≤_, _<_}
 use native.Mathlib.Omega.{arith}
-use borrow.Author.Tests.{ltb-false, le-leb, le-ltb, eq-eqb}
+use borrow.Author.Tests.{le-leb, le-ltb, eq-eqb}
 use lib.Dec.{ltb, eqb}
 use lib.ListN.{length, take, drop, getD, replicate, length-append}
 use lib.Seq.{take-append-seam, getD-append-add, getD-append-seam}
 use Rattle.crc.specs.Sum.{start, byteStep, sumFrom, sumOf}
 use Rattle.crc.proofs.Halving.{byteStep-below}
 use Rattle.line.specs.Framing.{fend}
-use Rattle.line.specs.Packing.{bodyOf, packedOf}
+use Rattle.line.specs.Packing.{bodyOf, packedOf, shortestMessage, messageSize, replySize}
 use Rattle.line.specs.declared.receiver.Receiver.{Receiver}
 use Rattle.line.specs.declared.receiver.Heard.{Heard}
 use Rattle.line.specs.declared.receiver.Heard.the-variants as heard
-use Rattle.line.specs.Receiver.{opened, closedOf, Outcome as LineOutcome, receiveOf, Feed, feedOf}
+use Rattle.line.specs.Receiver.{opened, closedOf, Reception, receiveOf, Feed, feedOf}
 use Rattle.line.proofs.Escaping.{the-room-is-enough-for-the-longest}
 use Rattle.line.specs.Delivery.{deliveredOf}
-use Rattle.line.specs.Unpacking as unpacking
-use Rattle.line.specs.Unpacking.{unpackOf, keptOf, NoFend}
+use Rattle.line.specs.Unpacking.{unpackOf, heardOf, keptOf, NoFend}
 use Rattle.line.proofs.Runs.{a-closed-run-is-heard-counted-and-stored-as-it-unpacks}
 use Rattle.line.proofs.Bounds.{the-count-never-passes-one-above-the-largest, the-buffer-keeps-its-length}
 use Rattle.line.proofs.RoundTrip.{a-body-after-any-FEND-is-received-as-its-message, what-is-packed-is-received-back}
 use Rattle.field.specs.Fields.{word16At, bytes16}
 use Rattle.memory.specs.Bytes.{stretch, begun}
-use Rattle.command.specs.Outcome as command
-use Rattle.command.specs.Command.{Held, commandOf}
-use Rattle.unit.specs.declared.Unit.{Unit}
-use Rattle.unit.specs.declared.Answer.the-variants.{Taken, Elsewhere, BadCount}
-use Rattle.unit.specs.declared.Fit.{Fit}
-use Rattle.unit.specs.declared.Fit.the-variants.{Fits, Unfit}
-use Rattle.unit.specs.Answers.{sentOf}
-use Rattle.unit.specs.Replies.{codeOf, polls, replyControl, sealed, replyMessage}
-use Rattle.unit.specs.World.{World, lengthsOf, Outcome, outcome, withReceiver, withMessage, heldOf}
-use Rattle.unit.specs.Fitting.{framAsSetUp, countFit, lengthsFit, messageSize, replySize, stepFit}
-use Rattle.unit.specs.Runs.{longestData, firstOfFram, Said, saying, answered, commandedOf, soundOf, runOf}
-use Rattle.unit.specs.Steps.{unless, heardOf, receivedOf, stepOf}
-use Rattle.unit.proofs.Serving.{a-served-step-fits}
-use Rattle.demands.proofs.Replies.{part, Roomy, every-reply-has-room}
-use Rattle.demands.proofs.Cases.{either-way, a-refused-step-has-its-number}
+use Rattle.carrying.specs.Ending.{longestData, Ending, done, refused, unfitted}
+use Rattle.carrying.specs.Held.{Held}
+use Rattle.carrying.proofs.Room.{either-way, Roomy, part}
+use Rattle.command.specs.Command.{commandOf}
+use Rattle.command.proofs.Room.{every-reply-has-room}
+use Rattle.answer.specs.declared.Answer.the-variants.{Taken, Elsewhere, BadCount}
+use Rattle.answer.specs.Answers.{sentOf}
+use Rattle.judging.specs.declared.Unit.{Unit}
+use Rattle.judging.specs.declared.Verdict.the-variants.{Quiet, Command}
+use Rattle.judging.specs.declared.fitting.Fit.the-variants.{Fits, Unfit}
+use Rattle.judging.specs.Fitting.{framAsSetUp, countFit, largestCount, lengthsFit, stepFit}
+use Rattle.judging.specs.Judging.{soundOf, runOf, verdictOf, withReceiver, receivedOf, judgeOf}
+use Rattle.judging.proofs.Serving.{a-served-step-fits}
+use Rattle.replying.specs.Replies.{codeOf, polls, replyControl, sealed, replyMessage, Said, saying, saidOf}
+use Rattle.unit.specs.World.{World, lengthsOf, Outcome, outcome, withMessage, heldOf}
+use Rattle.unit.specs.Steps.{firstOfFram, answered, orderedOf, commandedOf, servedOf, stepOf}
+use Rattle.demands.specs.Calls.{Call, lentTo, answering, fedOf, bytesOf, delivering, Suits, AllSuit, Idle, comesTo, addressedOf, answerMessage, Bytes}
+use Rattle.demands.proofs.Cases.{of-any-call, a-refused-step-has-its-number}
 use Rattle.demands.proofs.DemandOne.{high-sends}
-use Rattle.demands.specs.Calls.{Lent, lentTo, answering, fedOf, bytesOf, delivering, Suits, AllSuit, Idle, orderedOf, answerMessage, Bytes}
 
 -- ---- byte by byte
 
-counts : (count : ℕ) → count ≤ 1034 → countFit count ≡ Fits
-counts count low = ap (λ t. cond t Fits (Unfit BadCount)) (le-leb count 1034 low)
+counts : (count : ℕ) → count ≤ largestCount → countFit count ≡ Fits
+counts count low = ap (λ t. cond t Fits (Unfit BadCount)) (le-leb count largestCount low)
 
-module _ (u : Unit) (message : List ℕ) (c : Lent) (low : u .receiver .count ≤ 1034) (suits : Suits (u .address) (u .«fram_len») (length message) c) where
-  abbrev got : LineOutcome
+module _ (u : Unit) (message : List ℕ) (c : Call) (low : u .receiver .count ≤ largestCount) (suits : Suits (u .address) (u .«fram_len») (length message) c) where
+  abbrev got : Reception
   got = receiveOf messageSize (u .receiver) (c .byte) message
 
   fit : stepFit u (lengthsOf (lentTo message c)) ≡ Fits
   unfolding stepFit
   fit =
-      ap (λ next. lengthsFit (u .address) (framAsSetUp (length (c .fram)) (u .«fram_len»)) (lengthsOf (lentTo message c)) next) (counts (u .receiver .count) low)
+      ap (λ next. lengthsFit (u .address) (framAsSetUp (length (c .lent .fram)) (u .«fram_len»)) (lengthsOf (lentTo message c)) next) (counts (u .receiver .count) low)
       ∙ suits
 
-  served : stepOf u (c .byte) (lentTo message c) ≡ heardOf (withReceiver u (got .receiver)) (got .heard) (lentTo (got .message) c)
-  unfolding stepOf receivedOf
+  served : stepOf u (c .byte) (lentTo message c) ≡ comesTo (withReceiver u (got .receiver)) (got .heard) (lentTo (got .message) c)
+  unfolding stepOf judgeOf receivedOf
   served = simp fit
 
-  still-low : got .receiver .count ≤ 1034
+  still-low : got .receiver .count ≤ largestCount
   still-low = the-count-never-passes-one-above-the-largest messageSize (c .byte ∷ []) (u .receiver) message low
 
   still-long : length (got .message) ≡ length message
@@ -79,98 +80,83 @@ but-first [] = []
 but-first (_ ∷ l) = l
 
 -- calls of which all but the last are only taken leave what the last one comes to
-all-but-the-last : (calls : List Lent) (c : Lent) (h : Heard) (u : Unit) (message : List ℕ) → u .receiver .count ≤ 1034
+all-but-the-last : (calls : List Call) (c : Call) (h : Heard) (u : Unit) (message : List ℕ) → u .receiver .count ≤ largestCount
     → AllSuit (u .address) (u .«fram_len») (length message) calls → Suits (u .address) (u .«fram_len») (length message) c
     → feedOf messageSize (u .receiver) (bytesOf calls ++ (c .byte ∷ [])) message .heard ≡ replicate (length calls) heard.Taken ++ (h ∷ [])
     → fedOf u message calls c
     ≡ delivering (length calls)
-    (heardOf (withReceiver u (feedOf messageSize (u .receiver) (bytesOf calls ++ (c .byte ∷ [])) message .receiver)) h
+    (comesTo (withReceiver u (feedOf messageSize (u .receiver) (bytesOf calls ++ (c .byte ∷ [])) message .receiver)) h
     (lentTo (feedOf messageSize (u .receiver) (bytesOf calls ++ (c .byte ∷ [])) message .message) c))
-unfolding heardOf first-or but-first
+unfolding servedOf verdictOf first-or but-first
 all-but-the-last [] c h u message low all last e =
     let same : got u message c low last .heard ≡ h = ap (first-or h) e in
     ap (delivering 0)
-    (served u message c low last ∙ ap (λ x. heardOf (withReceiver u (got u message c low last .receiver)) x (lentTo (got u message c low last .message) c)) same)
+    (served u message c low last ∙ ap (λ x. comesTo (withReceiver u (got u message c low last .receiver)) x (lentTo (got u message c low last .message) c)) same)
 all-but-the-last (d ∷ calls) c h u message low all last e =
     let next = got u message d low (all .0) in
     let same : next .heard ≡ heard.Taken = ap (first-or h) e in
     let long : length (next .message) ≡ length message = still-long u message d low (all .0) in
     ap (λ o. answering (o .answer) (fedOf (o .unit) (o .world .message) calls c))
-    (served u message d low (all .0) ∙ ap (λ x. heardOf (withReceiver u (next .receiver)) x (lentTo (next .message) d)) same)
+    (served u message d low (all .0) ∙ ap (λ x. comesTo (withReceiver u (next .receiver)) x (lentTo (next .message) d)) same)
     ∙ ap (answering Taken)
     (all-but-the-last calls c h (withReceiver u (next .receiver)) (next .message) (still-low u message d low (all .0))
     (subst (λ n. AllSuit (u .address) (u .«fram_len») n calls) (sym long) (all .1)) (subst (λ n. Suits (u .address) (u .«fram_len») n c) (sym long) last) (ap but-first e))
 
 -- what is lent suits, and so the message buffer is long enough
-long-enough : (u : Unit) (message : List ℕ) (c : Lent) → u .receiver .count ≤ 1034 → Suits (u .address) (u .«fram_len») (length message) c → messageSize ≤ length message
-long-enough u message c low suits = a-served-step-fits u (lentTo message c) (fit u message c low suits) .message-fits
+long-enough : (u : Unit) (message : List ℕ) (c : Call) → u .receiver .count ≤ largestCount → Suits (u .address) (u .«fram_len») (length message) c → messageSize ≤ length message
+long-enough u message c low suits = a-served-step-fits u (lengthsOf (lentTo message c)) (fit u message c low suits) .message-fits
 
-as-many : (calls : List Lent) → length (bytesOf calls) ≡ length calls
+as-many : (calls : List Call) → length (bytesOf calls) ≡ length calls
 as-many [] = refl
 as-many (d ∷ calls) = ap suc (as-many calls)
 
 -- the calls of one run and its FEND, after a FEND
-module _ (u : Unit) (message : List ℕ) (calls : List Lent) (c : Lent) (run : List ℕ) (is : bytesOf calls ≡ run) (ends : c .byte ≡ fend)
+module _ (u : Unit) (message : List ℕ) (calls : List Call) (c : Call) (run : List ℕ) (is : bytesOf calls ≡ run) (ends : c .byte ≡ fend)
     (all : AllSuit (u .address) (u .«fram_len») (length message) calls) (last : Suits (u .address) (u .«fram_len») (length message) c) where
   closed : (f : Feed) → feedOf messageSize opened (run ++ (fend ∷ [])) message ≡ f → (h : Heard) → f .heard ≡ replicate (length run) heard.Taken ++ (h ∷ [])
-      → fedOf (withReceiver u opened) message calls c ≡ delivering (length calls) (heardOf (withReceiver u (f .receiver)) h (lentTo (f .message) c))
+      → fedOf (withReceiver u opened) message calls c ≡ delivering (length calls) (comesTo (withReceiver u (f .receiver)) h (lentTo (f .message) c))
   closed f e h hears =
       let same : bytesOf calls ++ (c .byte ∷ []) ≡ run ++ (fend ∷ []) = ap₂ (λ (l : List ℕ) (n : ℕ). l ++ (n ∷ [])) is ends in
       let whole : feedOf messageSize opened (bytesOf calls ++ (c .byte ∷ [])) message ≡ f = ap (λ l. feedOf messageSize opened l message) same ∙ e in
       let many : length run ≡ length calls = sym (ap length is) ∙ as-many calls in
       all-but-the-last calls c h (withReceiver u opened) message (omega arith) all last
       (ap (λ (g : Feed). g .heard) whole ∙ hears ∙ ap (λ (n : ℕ). replicate n heard.Taken ++ (h ∷ [])) many)
-      ∙ ap (λ (g : Feed). delivering (length calls) (heardOf (withReceiver u (g .receiver)) h (lentTo (g .message) c))) whole
+      ∙ ap (λ (g : Feed). delivering (length calls) (comesTo (withReceiver u (g .receiver)) h (lentTo (g .message) c))) whole
 
   -- Demand 2, for any bytes at all between two FENDs. All are taken, and the closing FEND judges the run as it unpacks: empty, framing,
   -- or so many bytes of message as its count says.
   pub any-run-is-judged-as-it-unpacks : NoFend run
       → fedOf (withReceiver u opened) message calls c
       ≡ delivering (length calls)
-      (heardOf (withReceiver u opened) (unpacking.heardOf messageSize run) (lentTo (keptOf messageSize run ++ drop (length (keptOf messageSize run)) message) c))
+      (comesTo (withReceiver u opened) (heardOf messageSize run) (lentTo (keptOf messageSize run ++ drop (length (keptOf messageSize run)) message) c))
   any-run-is-judged-as-it-unpacks none =
       let long = long-enough (withReceiver u opened) message c (omega arith) last in
       let short : length (keptOf messageSize run) ≤ messageSize = part messageSize (unpackOf run .bytes) in
-      closed _ (a-closed-run-is-heard-counted-and-stored-as-it-unpacks messageSize run message none (omega arith)) (unpacking.heardOf messageSize run) refl
+      closed _ (a-closed-run-is-heard-counted-and-stored-as-it-unpacks messageSize run message none (omega arith)) (heardOf messageSize run) refl
 
   message-judged : (m : List ℕ) → run ≡ bodyOf m → 0 < length m → length m ≤ messageSize
-      → fedOf (withReceiver u opened) message calls c ≡ delivering (length calls) (runOf (withReceiver u opened) (length m) (lentTo (m ++ drop (length m) message) c))
-  unfolding heardOf
+      → fedOf (withReceiver u opened) message calls c ≡ delivering (length calls) (servedOf (withReceiver u opened) (runOf (u .address) (length m) (m ++ drop (length m) message)) (lentTo (m ++ drop (length m) message) c))
+  unfolding verdictOf
   message-judged m body some within =
       let long = long-enough (withReceiver u opened) message c (omega arith) last in
       closed _ (ap (λ r. feedOf messageSize opened (r ++ (fend ∷ [])) message) body ∙ a-body-after-any-FEND-is-received-as-its-message messageSize m message some within (omega arith))
       (heard.Message (length m)) (ap (λ (r : List ℕ). replicate (length r) heard.Taken ++ (heard.Message (length m) ∷ [])) (sym body))
 
--- what is heard leaves the receiver as it is
-pub heard-keeps-the-receiver : (u : Unit) (h : Heard) (w : World) → heardOf u h w .unit .receiver ≡ u .receiver
-unfolding heardOf runOf commandedOf answered saying
-heard-keeps-the-receiver u heard.Taken w = refl
-heard-keeps-the-receiver u heard.Empty w = refl
-heard-keeps-the-receiver u heard.Framing w = refl
-heard-keeps-the-receiver u (heard.Message count) w =
-    either-way (λ (o : Outcome). o .unit .receiver ≡ u .receiver) (ltb count 5) _ _ (λ _. refl)
-    (λ _. either-way (λ (o : Outcome). o .unit .receiver ≡ u .receiver) (ltb messageSize count) _ _ (λ _. refl)
-    (λ _. either-way (λ (o : Outcome). o .unit .receiver ≡ u .receiver) (soundOf count (w .message)) _ _
-    (λ _. either-way (λ (o : Outcome). o .unit .receiver ≡ u .receiver) (eqb (getD (w .message) 0 0) (u .address)) _ _
-    (λ _. came (getD (w .message) 0 0) (getD (w .message) 1 0) (getD (w .message) 2 0) (stretch 3 (count - 5) (w .message))
-    (commandOf longestData firstOfFram (codeOf (getD (w .message) 2 0)) (w .diagnostics) (heldOf u w) (stretch 3 (count - 5) (w .message))))
-    (λ _. refl))
-    (λ _. refl)))
-  where
-    came : (destination source control : ℕ) (field : List ℕ) (o : command.Outcome Held) → answered u destination source control field o w .unit .receiver ≡ u .receiver
-    came destination source control field (command.done reply after) =
-        either-way (λ (s : Said). s .unit .receiver ≡ u .receiver) (polls control) _ _ (λ _. refl) (λ _. refl)
-    came destination source control field command.refused =
-        either-way (λ (s : Said). s .unit .receiver ≡ u .receiver) (polls control) _ _ (λ _. refl) (λ _. refl)
-    came destination source control field command.unfitted = refl
+-- a call that is not refused leaves the receiver as the line leaves it
+pub the-receiver-is-the-line's : (u : Unit) (byte : ℕ) (w : World) → stepFit u (lengthsOf w) ≡ Fits
+    → stepOf u byte w .unit .receiver ≡ receiveOf messageSize (u .receiver) byte (w .message) .receiver
+unfolding answered
+the-receiver-is-the-line's u byte w fits =
+    of-any-call (λ (o : Outcome). o .unit .receiver ≡ receiveOf messageSize (u .receiver) byte (w .message) .receiver) u byte w
+    (λ answer e. let z : Fits ≡ Unfit answer = sym fits ∙ e in let o : _≡_ {A = ℕ} 0 1 = cc in absurd (omega arith))
+    (λ _. record { taken = refl; elsewhere = refl; dropped = λ answer which number four silent. refl; commanded = λ destination source control field short. refl })
 
 -- A FEND that is served opens a run, whatever it closed.
-pub a-served-FEND-opens-a-run : (u : Unit) (message : List ℕ) (c : Lent) → u .receiver .count ≤ 1034 → Suits (u .address) (u .«fram_len») (length message) c → c .byte ≡ fend
+pub a-served-FEND-opens-a-run : (u : Unit) (message : List ℕ) (c : Call) → u .receiver .count ≤ largestCount → Suits (u .address) (u .«fram_len») (length message) c → c .byte ≡ fend
     → stepOf u (c .byte) (lentTo message c) .unit .receiver ≡ opened
 unfolding receiveOf
 a-served-FEND-opens-a-run u message c low suits ends =
-    ap (λ (o : Outcome). o .unit .receiver) (served u message c low suits)
-    ∙ heard-keeps-the-receiver (withReceiver u (got u message c low suits .receiver)) (got u message c low suits .heard) (lentTo (got u message c low suits .message) c)
+    the-receiver-is-the-line's u (c .byte) (lentTo message c) (fit u message c low suits)
     ∙ ap (λ (n : ℕ). receiveOf messageSize (u .receiver) n message .receiver) ends
 
 -- ---- what a sealed message comes to
@@ -233,37 +219,40 @@ module _ (u : Unit) (w : World) (destination source control : ℕ) (field : List
         let long = sealed-length in
         sealed-is-sound head tail bytes (length (sealed head) - 2) (omega arith)
 
-  no-runt : ltb (length (sealed head)) 5 ≡ false
+  no-runt : ltb (length (sealed head)) shortestMessage ≡ false
   no-runt =
       let long = sealed-length in
-      le-ltb (length (sealed head)) 5 (omega arith)
+      le-ltb (length (sealed head)) shortestMessage (omega arith)
 
   not-oversize : ltb messageSize (length (sealed head)) ≡ false
   not-oversize =
       let long = sealed-length in
       le-ltb messageSize (length (sealed head)) (omega arith)
 
-  judged : runOf u (length (sealed head)) lying
-      ≡ cond (eqb destination (u .address))
-      (answered u destination source control field (commandOf longestData firstOfFram (codeOf control) (w .diagnostics) (heldOf u w) field) lying)
-      (outcome u Elsewhere lying)
-  unfolding runOf commandedOf sealed
+  either-one : (b : Bool) → servedOf u (cond b (Command (length (sealed head))) (Quiet Elsewhere)) lying
+      ≡ cond b (orderedOf u destination source control field lying) (outcome u Elsewhere lying)
+  unfolding servedOf commandedOf sealed
+  either-one true = ap (λ (f : List ℕ). orderedOf u destination source control f lying) (field-size (drop (length (sealed head)) (w .message)))
+  either-one false = refl
+
+  judged : servedOf u (runOf (u .address) (length (sealed head)) (lying .message)) lying ≡ addressedOf u destination source control field lying
+  unfolding runOf sealed
   judged =
       let tail = drop (length (sealed head)) (w .message) in
-      simp (no-runt, not-oversize, sound tail, field-size tail)
+      simp (no-runt, not-oversize, sound tail) (either-one (eqb destination (u .address)))
 
 -- ---- demand 2
 
-module _ (u : Unit) (message : List ℕ) (calls : List Lent) (c : Lent) (low : u .receiver .count ≤ 1034) (all : AllSuit (u .address) (u .«fram_len») (length message) calls)
+module _ (u : Unit) (message : List ℕ) (calls : List Call) (c : Call) (low : u .receiver .count ≤ largestCount) (all : AllSuit (u .address) (u .«fram_len») (length message) calls)
     (last : Suits (u .address) (u .«fram_len») (length message) c) (ends : c .byte ≡ fend) (destination source control : ℕ) (field : List ℕ)
     (bytes : Bytes (destination ∷ source ∷ control ∷ field)) (short : length field ≤ longestData) where
   abbrev sent : List ℕ
   sent = sealed (destination ∷ source ∷ control ∷ field)
 
   abbrev carriedOut : Outcome
-  carriedOut = orderedOf (withReceiver u opened) destination source control field (lentTo (sent ++ drop (length sent) message) c)
+  carriedOut = addressedOf (withReceiver u opened) destination source control field (lentTo (sent ++ drop (length sent) message) c)
 
-  body-carried-out : (some : List Lent) → AllSuit (u .address) (u .«fram_len») (length message) some → bytesOf some ≡ bodyOf sent
+  body-carried-out : (some : List Call) → AllSuit (u .address) (u .«fram_len») (length message) some → bytesOf some ≡ bodyOf sent
       → fedOf (withReceiver u opened) message some c ≡ delivering (length some) carriedOut
   body-carried-out some suit is =
       let long = sealed-length u (lentTo message c) destination source control field bytes short in
@@ -281,20 +270,20 @@ module _ (u : Unit) (message : List ℕ) (calls : List Lent) (c : Lent) (low : u
 
   -- The same with both its FENDs, to a unit that is fresh or has nothing open.
   pub a-packed-command-is-carried-out : Idle (u .receiver) → bytesOf calls ≡ fend ∷ bodyOf sent → fedOf u message calls c ≡ delivering (length calls) carriedOut
-  unfolding heardOf receiveOf
+  unfolding servedOf verdictOf receiveOf
   a-packed-command-is-carried-out idle = by calls all
     where
-      quiet : (w : World) → Idle (u .receiver) → heardOf (withReceiver u opened) (closedOf (u .receiver .place) (u .receiver .count)) w ≡ outcome (withReceiver u opened) Taken w
-      quiet w (inl e) = ap (λ h. heardOf (withReceiver u opened) h w) e
-      quiet w (inr e) = ap (λ h. heardOf (withReceiver u opened) h w) e
+      quiet : (w : World) → Idle (u .receiver) → comesTo (withReceiver u opened) (closedOf (u .receiver .place) (u .receiver .count)) w ≡ outcome (withReceiver u opened) Taken w
+      quiet w (inl e) = ap (λ h. comesTo (withReceiver u opened) h w) e
+      quiet w (inr e) = ap (λ h. comesTo (withReceiver u opened) h w) e
 
-      opening : (d : Lent) → Suits (u .address) (u .«fram_len») (length message) d → d .byte ≡ fend → stepOf u (d .byte) (lentTo message d) ≡ outcome (withReceiver u opened) Taken (lentTo message d)
+      opening : (d : Call) → Suits (u .address) (u .«fram_len») (length message) d → d .byte ≡ fend → stepOf u (d .byte) (lentTo message d) ≡ outcome (withReceiver u opened) Taken (lentTo message d)
       opening d suits e =
           served u message d low suits
-          ∙ ap (λ (o : LineOutcome). heardOf (withReceiver u (o .receiver)) (o .heard) (lentTo (o .message) d)) (ap (λ (n : ℕ). receiveOf messageSize (u .receiver) n message) e)
+          ∙ ap (λ (o : Reception). comesTo (withReceiver u (o .receiver)) (o .heard) (lentTo (o .message) d)) (ap (λ (n : ℕ). receiveOf messageSize (u .receiver) n message) e)
           ∙ quiet (lentTo message d) idle
 
-      by : (some : List Lent) → AllSuit (u .address) (u .«fram_len») (length message) some → bytesOf some ≡ fend ∷ bodyOf sent → fedOf u message some c ≡ delivering (length some) carriedOut
+      by : (some : List Call) → AllSuit (u .address) (u .«fram_len») (length message) some → bytesOf some ≡ fend ∷ bodyOf sent → fedOf u message some c ≡ delivering (length some) carriedOut
       by [] suit is = let z : suc (length (bodyOf sent)) ≡ 0 = sym (ap length is) in absurd (omega arith)
       by (d ∷ some) suit is =
           ap (λ o. answering (o .answer) (fedOf (o .unit) (o .world .message) some c)) (opening d (suit .0) (ap (λ l. getD l 0 0) is))
@@ -302,110 +291,92 @@ module _ (u : Unit) (message : List ℕ) (calls : List Lent) (c : Lent) (low : u
 
 -- Where poll is set and the command did not fault, what is sent is the packed message of the answer.
 module _ (u : Unit) (destination source control : ℕ) (field : List ℕ) (w : World) (polled : polls control ≡ true) where
-  pub what-is-sent-is-the-packed-answer : (o : command.Outcome Held) → (o ≡ command.unfitted → ⊥)
+  pub what-is-sent-is-the-packed-answer : (o : Ending Held) → (o ≡ unfitted → ⊥)
       → take (sentOf (answered u destination source control field o w .answer)) (answered u destination source control field o w .world .reply)
       ≡ packedOf (answerMessage destination source control field o)
-  unfolding answered saying begun
-  what-is-sent-is-the-packed-answer (command.done reply after) answers =
+  unfolding answered saidOf saying begun
+  what-is-sent-is-the-packed-answer (done reply changed) answers =
       simp polled (take-append-seam (packedOf (replyMessage 1 destination source control reply)) (drop (length (packedOf (replyMessage 1 destination source control reply))) (w .reply)))
-  what-is-sent-is-the-packed-answer command.refused answers =
+  what-is-sent-is-the-packed-answer refused answers =
       simp polled (take-append-seam (packedOf (replyMessage 0 destination source control field)) (drop (length (packedOf (replyMessage 0 destination source control field))) (w .reply)))
-  what-is-sent-is-the-packed-answer command.unfitted answers = absurd (answers refl)
+  what-is-sent-is-the-packed-answer unfitted answers = absurd (answers refl)
 
 -- an answer's message is never too long for a receiver
 sealed-size : (a b c : ℕ) (l : List ℕ) → length (sealed (a ∷ b ∷ c ∷ l)) ≡ length l + 5
 unfolding sealed
 sealed-size a b c l = length-append (a ∷ b ∷ c ∷ l) (bytes16 (sumOf (a ∷ b ∷ c ∷ l))) ∙ (omega arith)
 
-legal : (destination source control : ℕ) (field : List ℕ) (o : command.Outcome Held) → (o ≡ command.unfitted → ⊥) → length field ≤ longestData → Roomy longestData o
+legal : (destination source control : ℕ) (field : List ℕ) (o : Ending Held) → (o ≡ unfitted → ⊥) → length field ≤ longestData → Roomy longestData o
     → (5 ≤ length (answerMessage destination source control field o)) × (length (answerMessage destination source control field o) ≤ messageSize)
 unfolding replyMessage
-legal destination source control field (command.done reply after) answers short fits =
+legal destination source control field (done reply changed) answers short fits =
     let long = sealed-size source destination (replyControl 1 control) reply in
     (omega arith, omega arith)
-legal destination source control field command.refused answers short fits =
+legal destination source control field refused answers short fits =
     let long = sealed-size source destination (replyControl 0 control) field in
     (omega arith, omega arith)
-legal destination source control field command.unfitted answers short fits = absurd (answers refl)
+legal destination source control field unfitted answers short fits = absurd (answers refl)
 
 -- Demand 2, the way back. The bytes sent in answer to any command with data of legal length, given to any receiver with room for a
 -- message, are received as the message of the answer.
 module _ (u : Unit) (destination source control : ℕ) (field : List ℕ) (w : World) (polled : polls control ≡ true) (short : length field ≤ longestData) where
-  abbrev came : command.Outcome Held
+  abbrev came : Ending Held
   came = commandOf longestData firstOfFram (codeOf control) (w .diagnostics) (heldOf u w) field
 
   abbrev left : Outcome
   left = answered u destination source control field came w
 
-  pub what-is-sent-is-received-back : (came ≡ command.unfitted → ⊥) → (receiver : Receiver) (theirs : List ℕ) → messageSize ≤ length theirs
+  pub what-is-sent-is-received-back : (came ≡ unfitted → ⊥) → (receiver : Receiver) (theirs : List ℕ) → messageSize ≤ length theirs
       → feedOf messageSize receiver (take (sentOf (left .answer)) (left .world .reply)) theirs
       ≡ deliveredOf receiver (answerMessage destination source control field came) theirs
   what-is-sent-is-received-back answers receiver theirs roomy =
-      let fits = legal destination source control field came answers short (every-reply-has-room longestData (omega arith) firstOfFram (codeOf control) (w .diagnostics) (heldOf u w) field short) in
+      let fits = legal destination source control field came answers short (every-reply-has-room longestData (omega arith) firstOfFram (codeOf control) (w .diagnostics) (heldOf u w) field) in
       let low = fits .0 in
       let high = fits .1 in
       ap (λ l. feedOf messageSize receiver l theirs) (what-is-sent-is-the-packed-answer u destination source control field w polled came answers)
       ∙ what-is-packed-is-received-back messageSize (answerMessage destination source control field came) theirs (omega arith) (omega arith) (omega arith) receiver
 
 -- Where poll is clear nothing is sent, and the reply buffer is as it was.
-pub nothing-is-sent-where-poll-is-clear : (u : Unit) (destination source control : ℕ) (field : List ℕ) (w : World) → polls control ≡ false → (o : command.Outcome Held)
+pub nothing-is-sent-where-poll-is-clear : (u : Unit) (destination source control : ℕ) (field : List ℕ) (w : World) → polls control ≡ false → (o : Ending Held)
     → (sentOf (answered u destination source control field o w .answer) ≡ 0) × (answered u destination source control field o w .world .reply ≡ w .reply)
-unfolding answered saying
-nothing-is-sent-where-poll-is-clear u destination source control field w clear (command.done reply after) = (simp clear, simp clear)
-nothing-is-sent-where-poll-is-clear u destination source control field w clear command.refused = (simp clear, simp clear)
-nothing-is-sent-where-poll-is-clear u destination source control field w clear command.unfitted = (refl, refl)
+unfolding answered saidOf saying
+nothing-is-sent-where-poll-is-clear u destination source control field w clear (done reply changed) = (simp clear, simp clear)
+nothing-is-sent-where-poll-is-clear u destination source control field w clear refused = (simp clear, simp clear)
+nothing-is-sent-where-poll-is-clear u destination source control field w clear unfitted = (refl, refl)
 
 -- What is sent has room in the reply buffer.
-done-answers : {reply : List ℕ} {after : Held} → command.done reply after ≡ command.unfitted → ⊥
+done-answers : {reply : List ℕ} {changed : Held} → done reply changed ≡ unfitted → ⊥
 done-answers e = let z : _≡_ {A = ℕ} 0 1 = cc in absurd (omega arith)
 
-refused-answers : _≡_ {A = command.Outcome Held} command.refused command.unfitted → ⊥
+refused-answers : _≡_ {A = Ending Held} refused unfitted → ⊥
 refused-answers e = let z : _≡_ {A = ℕ} 0 1 = cc in absurd (omega arith)
 
-answered-fits : (u : Unit) (destination source control : ℕ) (field : List ℕ) (o : command.Outcome Held) (w : World) → length field ≤ longestData → Roomy longestData o
+answered-fits : (u : Unit) (destination source control : ℕ) (field : List ℕ) (o : Ending Held) (w : World) → length field ≤ longestData → Roomy longestData o
     → replySize ≤ length (w .reply) → sentOf (answered u destination source control field o w .answer) ≤ length (w .reply)
-unfolding answered saying
-answered-fits u destination source control field (command.done reply after) w short fits roomy =
-    let high = legal destination source control field (command.done reply after) done-answers short fits .1 in
+unfolding answered saidOf saying
+answered-fits u destination source control field (done reply changed) w short fits roomy =
+    let high = legal destination source control field (done reply changed) done-answers short fits .1 in
     let packed = the-room-is-enough-for-the-longest (replyMessage 1 destination source control reply) (omega arith) in
     either-way (λ (s : Said). sentOf (s .answer) ≤ length (w .reply)) (polls control) _ _ (λ _. omega arith) (λ _. omega arith)
-answered-fits u destination source control field command.refused w short fits roomy =
-    let high = legal destination source control field command.refused refused-answers short fits .1 in
+answered-fits u destination source control field refused w short fits roomy =
+    let high = legal destination source control field refused refused-answers short fits .1 in
     let packed = the-room-is-enough-for-the-longest (replyMessage 0 destination source control field) (omega arith) in
     either-way (λ (s : Said). sentOf (s .answer) ≤ length (w .reply)) (polls control) _ _ (λ _. omega arith) (λ _. omega arith)
-answered-fits u destination source control field command.unfitted w short fits roomy = omega arith
-
-heard-fits : (u : Unit) (h : Heard) (w : World) → replySize ≤ length (w .reply) → sentOf (heardOf u h w .answer) ≤ length (w .reply)
-unfolding heardOf runOf commandedOf
-heard-fits u heard.Taken w roomy = omega arith
-heard-fits u heard.Empty w roomy = omega arith
-heard-fits u heard.Framing w roomy = omega arith
-heard-fits u (heard.Message count) w roomy =
-    either-way (λ (o : Outcome). sentOf (o .answer) ≤ length (w .reply)) (ltb count 5) _ _ (λ _. omega arith)
-    (λ _. either-way (λ (o : Outcome). sentOf (o .answer) ≤ length (w .reply)) (ltb messageSize count) _ _ (λ _. omega arith)
-    (λ within. either-way (λ (o : Outcome). sentOf (o .answer) ≤ length (w .reply)) (soundOf count (w .message)) _ _
-    (λ _. either-way (λ (o : Outcome). sentOf (o .answer) ≤ length (w .reply)) (eqb (getD (w .message) 0 0) (u .address)) _ _
-    (λ _. carried (getD (w .message) 2 0) (stretch 3 (count - 5) (w .message)) (short (ltb-false messageSize count within)))
-    (λ _. omega arith))
-    (λ _. omega arith)))
-  where
-    short : count ≤ messageSize → length (stretch 3 (count - 5) (w .message)) ≤ longestData
-    short within = let h = part (count - 5) (drop 3 (w .message)) in omega arith
-
-    carried : (control : ℕ) (field : List ℕ) → length field ≤ longestData
-        → sentOf (answered u (getD (w .message) 0 0) (getD (w .message) 1 0) control field
-        (commandOf longestData firstOfFram (codeOf control) (w .diagnostics) (heldOf u w) field) w .answer)
-        ≤ length (w .reply)
-    carried control field h =
-        answered-fits u (getD (w .message) 0 0) (getD (w .message) 1 0) control field (commandOf longestData firstOfFram (codeOf control) (w .diagnostics) (heldOf u w) field) w h
-        (every-reply-has-room longestData (omega arith) firstOfFram (codeOf control) (w .diagnostics) (heldOf u w) field h) roomy
+answered-fits u destination source control field unfitted w short fits roomy = omega arith
 
 pub what-is-sent-fits-the-reply-buffer : (u : Unit) (byte : ℕ) (w : World) → sentOf (stepOf u byte w .answer) ≤ length (w .reply)
-unfolding stepOf receivedOf
-what-is-sent-fits-the-reply-buffer u byte w = apart (stepFit u (lengthsOf w)) refl
-  where
-    apart : (f : Fit) → stepFit u (lengthsOf w) ≡ f → sentOf (unless f u w (receivedOf u byte w) .answer) ≤ length (w .reply)
-    apart (Unfit answer) e = let z = high-sends answer (a-refused-step-has-its-number u (lengthsOf w) answer e) in omega arith
-    apart Fits e =
-        let next = receiveOf messageSize (u .receiver) byte (w .message) in
-        heard-fits (withReceiver u (next .receiver)) (next .heard) (withMessage w (next .message)) (a-served-step-fits u w e .reply-fits)
+what-is-sent-fits-the-reply-buffer u byte w =
+    of-any-call (λ (o : Outcome). sentOf (o .answer) ≤ length (w .reply)) u byte w
+    (λ answer e. let z = high-sends answer (a-refused-step-has-its-number u (lengthsOf w) answer e) in omega arith)
+    (λ e.
+    let got = receiveOf messageSize (u .receiver) byte (w .message) in
+    let next = withReceiver u (got .receiver) in
+    let lent = withMessage w (got .message) in
+    record {
+      taken = omega arith;
+      elsewhere = omega arith;
+      dropped = λ answer which number four silent. omega arith;
+      commanded = λ destination source control field short.
+          answered-fits next destination source control field (commandOf longestData firstOfFram (codeOf control) (w .diagnostics) (heldOf next lent) field) lent short
+          (every-reply-has-room longestData (omega arith) firstOfFram (codeOf control) (w .diagnostics) (heldOf next lent) field) (a-served-step-fits u (lengthsOf w) e .reply-fits);
+    })

@@ -1,5 +1,4 @@
 pub mod Cases
-pub mod Replies
 pub mod DemandOne
 pub mod DemandTwo
 pub mod DemandThree

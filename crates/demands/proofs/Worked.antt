@@ -1,33 +1,32 @@
 -- 01's small examples hold: each by computation from the definitions. Assumes nothing.
-use mathlib.Core.Path.{refl}
+use mathlib.Core.Path.{_≡_, refl}
 use mathlib.Core.List.{[], _∷_}
 use lib.ListN.{take, replicate}
-use mathlib.Core.Path.{_≡_}
 use Rattle.crc.specs.Sum.{bitStep, bitSteps, byteStep, sumFrom, sumOf}
 use Rattle.crc.proofs.Examples as sum
 use Rattle.line.proofs.Examples as line
 use Rattle.line.specs.Receiver.{receiveOf, insideOf, closedOf, storedOf, countedOf}
 use Rattle.line.specs.Packing.{escapedOf}
 use Rattle.memory.specs.Bytes.{begun}
-use Rattle.memory.specs.Fram.{freshSums, freshFrom}
+use Rattle.blocks.specs.Fram.{freshSums, freshFrom}
 use Rattle.memory.specs.Counts.{countedUp}
-use Rattle.command.proofs.Examples as command
-use Rattle.command.specs.Command.{framCommandOf, commandOf}
-use Rattle.unit.specs.declared.Answer.the-variants.{Taken, Acked, Runt}
-use Rattle.unit.specs.Replies.{sealed, replyMessage}
-use Rattle.unit.specs.Fitting.{lengthsFit, setUpFit, stepFit}
-use Rattle.unit.specs.Runs.{saying, answered, commandedOf, runOf}
-use Rattle.unit.specs.Steps.{setUpOf, heardOf, receivedOf, stepOf}
+use Rattle.file_commands.proofs.Examples as files
+use Rattle.command.specs.Command.{commandOf}
+use Rattle.answer.specs.declared.Answer.the-variants.{Taken, Acked, Runt}
+use Rattle.judging.specs.Fitting.{lengthsFit, setUpFit, stepFit}
+use Rattle.judging.specs.Judging.{runOf, verdictOf, receivedOf, judgeOf}
+use Rattle.replying.specs.Replies.{sealed, replyMessage, saying, saidOf}
+use Rattle.unit.specs.Steps.{setUpOf, answered, commandedOf, servedOf, stepOf}
 use Rattle.demands.specs.Worked.{WorkedExamples, heard}
 
 ping : let f = heard (0xC0 ∷ 0x41 ∷ 0x11 ∷ 0x80 ∷ 0xD8 ∷ 0x6D ∷ []) 0xC0 in
     (f .answers ≡ replicate 6 Taken) × (f .last .answer ≡ Acked 24) × (take 4 (f .last .world .reply) ≡ 0xC0 ∷ 0x11 ∷ 0x41 ∷ 0xA0 ∷ [])
-unfolding stepOf setUpOf setUpFit stepFit lengthsFit freshSums freshFrom receivedOf receiveOf insideOf closedOf storedOf countedOf heardOf runOf commandedOf answered saying sealed replyMessage commandOf framCommandOf escapedOf begun sumOf sumFrom byteStep bitSteps bitStep
+unfolding stepOf setUpOf setUpFit stepFit lengthsFit freshSums freshFrom judgeOf receivedOf receiveOf insideOf closedOf storedOf countedOf verdictOf runOf servedOf commandedOf answered saidOf saying sealed replyMessage commandOf escapedOf begun sumOf sumFrom byteStep bitSteps bitStep
 ping = (refl, refl, refl)
 
 runs : (heard (0xC0 ∷ []) 0xC0 .last .answer ≡ Taken)
     × (heard (0xC0 ∷ 0x01 ∷ 0x02 ∷ 0x03 ∷ 0x04 ∷ []) 0xC0 .last .answer ≡ Runt)
-unfolding stepOf setUpOf setUpFit stepFit lengthsFit freshSums freshFrom receivedOf receiveOf insideOf closedOf storedOf countedOf heardOf runOf countedUp
+unfolding stepOf setUpOf setUpFit stepFit lengthsFit freshSums freshFrom judgeOf receivedOf receiveOf insideOf closedOf storedOf countedOf verdictOf runOf servedOf countedUp
 runs = (refl, refl)
 
 pub the-worked-examples-hold : WorkedExamples
@@ -41,7 +40,7 @@ the-worked-examples-hold = record {
   P7 = line.P7;
   P8 = sum.P8;
   P9 = runs;
-  P10 = command.P10;
-  P11 = command.P11;
-  P12 = command.P12;
+  P10 = files.P10;
+  P11 = files.P11;
+  P12 = files.P12;
 }

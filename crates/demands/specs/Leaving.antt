@@ -7,9 +7,9 @@ use lib.Dec.{leb}
 use lib.ListN.{take}
 use Rattle.memory.specs.Bytes.{begun}
 use Rattle.memory.specs.Counts.{countedUp}
-use Rattle.unit.specs.declared.Unit.{Unit}
-use Rattle.unit.specs.declared.Answer.{Answer}
-use Rattle.unit.specs.Answers.{numberOf, sentOf}
+use Rattle.judging.specs.declared.Unit.{Unit}
+use Rattle.answer.specs.declared.Answer.{Answer}
+use Rattle.answer.specs.Answers.{numberOf, sentOf}
 use Rattle.unit.specs.World.{World, Outcome}
 
 -- 5 to 8 each add one to diagnostic 0x07, 0x08, 0x09, 0x0A in that order. No other answer moves a diagnostic.

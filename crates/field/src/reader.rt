@@ -1,6 +1,6 @@
 // Walking a list of structures in a data field.
 ghost use mathlib.Core.Path.{_≡_};
-ghost use Rattle.field.specs.Reading.{stepOf, isStructure};
+ghost use Rattle.field.specs.Reading.{nextOf, isStructure};
 
 // What stands at a place of a list: a structure, with the place behind it; fewer bytes than a structure has; or the end.
 pub enum Step {
@@ -11,7 +11,7 @@ pub enum Step {
 
 // The step over a structure of `width` bytes.
 pub fn step_at(field: &[u8], at: usize, width: usize) -> Step
-    ensures { λ r. ⌜ r ≡ stepOf (now (field .entry)) at width ⌝ }
+    ensures { λ r. ⌜ r ≡ nextOf (now (field .entry)) at width ⌝ }
 {
     let size = field.len();
     if size <= at {
@@ -38,21 +38,21 @@ pub fn new<'a>(field: &'a [u8], at: usize) -> Reader<'a>
 
 // The step over a structure of `width` bytes at the reader's place.
 pub fn next<'a>(r: Reader<'a>, width: usize) -> Step
-    ensures { λ s. ⌜ s ≡ stepOf (now (r .entry .field)) (r .entry .at) width ⌝ }
+    ensures { λ s. ⌜ s ≡ nextOf (now (r .entry .field)) (r .entry .at) width ⌝ }
 {
     step_at(r.field, r.at, width)
 }
 
 // The same of a field and a place: for callers, who need no reader of their own.
 pub fn step_over(field: &[u8], at: usize, width: usize) -> Step
-    ensures { λ s. ⌜ s ≡ stepOf (now (field .entry)) at width ⌝ }
+    ensures { λ s. ⌜ s ≡ nextOf (now (field .entry)) at width ⌝ }
 {
     next(new(field, at), width)
 }
 
 // Whether a structure of `width` bytes stands at a place.
 pub fn stands(field: &[u8], at: usize, width: usize) -> bool
-    ensures { λ r. ⌜ r ≡ isStructure (stepOf (now (field .entry)) at width) ⌝ }
+    ensures { λ r. ⌜ r ≡ isStructure (nextOf (now (field .entry)) at width) ⌝ }
 {
     let found = step_over(field, at, width);
     match found {

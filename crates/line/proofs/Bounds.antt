@@ -11,7 +11,7 @@ use lib.Dec.{eqb}
 use lib.ListN.{length, set, drop, length-set}
 use lib.Seq.{drop-set-lt}
 use Rattle.line.specs.Framing.{fend, fesc, tfend, tfesc}
-use Rattle.line.specs.Receiver.{Outcome, opened, storedOf, countedOf, afterEscapeOf, insideOf, receiveOf, feedOf}
+use Rattle.line.specs.Receiver.{Reception, opened, storedOf, countedOf, afterEscapeOf, insideOf, receiveOf, feedOf}
 use Rattle.line.specs.declared.receiver.Place.{Place}
 use Rattle.line.specs.declared.receiver.Place.the-variants.{Fresh, Run, Escape, Fault}
 use Rattle.line.specs.declared.receiver.Receiver.{Receiver}
@@ -19,7 +19,7 @@ use Rattle.line.proofs.Cases.{below-or-not}
 use Rattle.line.proofs.Receiving.{below-the-largest-a-byte-is-stored, from-the-largest-on-nothing-is-stored}
 use Rattle.line.proofs.Counting.{one-count}
 
-in-both : (Q : Outcome → Type 0) (p : Bool) {x y : Outcome} → Q x → Q y → Q (cond p x y)
+in-both : (Q : Reception → Type 0) (p : Bool) {x y : Reception} → Q x → Q y → Q (cond p x y)
 in-both Q true a b = a
 in-both Q false a b = b
 
@@ -37,7 +37,7 @@ module _
     → P receiver message
     → P (record { place = Run; count = countedOf largest (receiver .count) }) (storedOf largest (receiver .count) byte message))
   where
-    abbrev Q : Outcome → Type 0
+    abbrev Q : Reception → Type 0
     Q o = P (o .receiver) (o .message)
 
     inside

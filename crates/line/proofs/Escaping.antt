@@ -8,7 +8,7 @@ use native.Mathlib.Omega.{arith}
 use borrow.Author.Tests.{ne-eqb}
 use lib.ListN.{length, length-append}
 use Rattle.line.specs.Framing.{fend, fesc, tfend, tfesc}
-use Rattle.line.specs.Packing.{escapedOf, bodyOf, packedOf, longest, room}
+use Rattle.line.specs.Packing.{escapedOf, bodyOf, packedOf, messageSize, replySize}
 use Rattle.line.proofs.Cases.{equal-or-not}
 
 pub FEND-is-escaped : (byte : ℕ) → byte ≡ fend → escapedOf byte ≡ fesc ∷ tfend ∷ []
@@ -61,5 +61,5 @@ pub a-packed-message-is-at-most-twice-its-length-and-two : (message : List ℕ) 
 a-packed-message-is-at-most-twice-its-length-and-two message =
     omega (arith, length-append (bodyOf message) (fend ∷ []), a-body-is-at-most-twice-its-message message)
 
-pub the-room-is-enough-for-the-longest : (message : List ℕ) → length message ≤ longest → length (packedOf message) ≤ room
+pub the-room-is-enough-for-the-longest : (message : List ℕ) → length message ≤ messageSize → length (packedOf message) ≤ replySize
 the-room-is-enough-for-the-longest message h = omega (arith, a-packed-message-is-at-most-twice-its-length-and-two message)

@@ -7,7 +7,7 @@ use mathlib.Core.List.{List, [], _∷_, _++_}
 use lib.ListN.{replicate}
 use Rattle.line.specs.Receiver.{fresh, receiveOf, insideOf, afterEscapeOf, closedOf, storedOf, countedOf, feedOf}
 use Rattle.line.specs.Unpacking.{unpackOf}
-use Rattle.line.specs.Packing.{longest, escapedOf, packedOf, packOf}
+use Rattle.line.specs.Packing.{messageSize, escapedOf, packedOf, packOf}
 use Rattle.line.specs.declared.receiver.Heard.{Heard}
 use Rattle.line.specs.declared.receiver.Heard.the-variants.{Taken, Empty, Framing, Message}
 
@@ -21,7 +21,7 @@ P7 = (refl, refl, refl)
 
 -- what a fresh receiver hears of `bytes`, into a buffer of zeros
 abbrev heard : List ℕ → List Heard
-heard bytes = feedOf longest fresh bytes (replicate longest 0) .heard
+heard bytes = feedOf messageSize fresh bytes (replicate messageSize 0) .heard
 
 -- P9, the line's half: an empty run, and a count of 4, which is a runt
 pub P9
@@ -65,7 +65,7 @@ unfolding receiveOf insideOf afterEscapeOf closedOf storedOf countedOf
 a-fault-at-the-1035th-byte = refl
 
 pub the-1034th-byte-is-not-stored
-    : feedOf longest fresh (run 1_034 []) (replicate 1_040 0) .message ≡ replicate 1_033 0x41 ++ replicate 7 0
+    : feedOf messageSize fresh (run 1_034 []) (replicate 1_040 0) .message ≡ replicate 1_033 0x41 ++ replicate 7 0
 unfolding receiveOf insideOf closedOf storedOf countedOf
 the-1034th-byte-is-not-stored = refl
 

@@ -10,7 +10,7 @@ use borrow.Author.Tests.{lt-ltb, le-ltb}
 use lib.ListN.{length, getD, set, drop, length-append, drop-of-length-le}
 use lib.Seq.{sets, length-sets, drop-cons}
 use Rattle.line.specs.Framing.{fend}
-use Rattle.line.specs.Packing.{escapedOf, bodyOf, packedOf, shortest, longest, room, packingOf, packOf}
+use Rattle.line.specs.Packing.{escapedOf, bodyOf, packedOf, shortestMessage, messageSize, replySize, packingOf, packOf}
 use Rattle.line.specs.declared.packing.Packed.the-variants.{Sent, ShortReply, BadLength}
 use Rattle.line.proofs.Stores.{stores-follow-stores, stores-from-the-start}
 use Rattle.line.proofs.Escaping.{an-escaped-byte-is-one-or-two, the-room-is-enough-for-the-longest}
@@ -50,7 +50,7 @@ next-of message i h =
 
 module _ (message start reply : List ℕ) (at i : ℕ) (laid : Laid message start reply at i) where
   module _ (h : i < length message) where
-    pub a-byte-finds-room : length message ≤ longest → room ≤ length start → at + 1 < length reply
+    pub a-byte-finds-room : length message ≤ messageSize → replySize ≤ length start → at + 1 < length reply
     a-byte-finds-room m r =
         omega (
           arith,
@@ -93,7 +93,7 @@ module _ (message start reply : List ℕ) (at i : ℕ) (laid : Laid message star
     pub the-last-place : at + 1 ≡ length (packedOf message)
     the-last-place = omega (arith, laid .place, ap length nothing-is-left)
 
-    pub the-last-byte-is-within-the-room : length message ≤ longest → at < room
+    pub the-last-byte-is-within-the-room : length message ≤ messageSize → at < replySize
     the-last-byte-is-within-the-room m = omega (arith, the-last-place, the-room-is-enough-for-the-longest message m)
 
     pub all-is-laid : set reply at fend ≡ sets start 1 (leftOf message 0)
@@ -101,28 +101,28 @@ module _ (message start reply : List ℕ) (at i : ℕ) (laid : Laid message star
 
 -- the answers of packing alone, in the order of the tests
 module _ (message reply : List ℕ) where
-  pub a-short-reply-buffer-is-refused : length reply < room → packingOf ShortReply reply ≡ packOf message reply
+  pub a-short-reply-buffer-is-refused : length reply < replySize → packingOf ShortReply reply ≡ packOf message reply
   unfolding packOf
-  a-short-reply-buffer-is-refused r = rw (lt-ltb (length reply) room r)
+  a-short-reply-buffer-is-refused r = rw (lt-ltb (length reply) replySize r)
 
-  module _ (roomy : room ≤ length reply) where
-    pub a-short-message-is-refused : length message < shortest → packingOf BadLength reply ≡ packOf message reply
+  module _ (roomy : replySize ≤ length reply) where
+    pub a-short-message-is-refused : length message < shortestMessage → packingOf BadLength reply ≡ packOf message reply
     unfolding packOf
-    a-short-message-is-refused s = rw (le-ltb (length reply) room roomy, lt-ltb (length message) shortest s)
+    a-short-message-is-refused s = rw (le-ltb (length reply) replySize roomy, lt-ltb (length message) shortestMessage s)
 
-    module _ (long-enough : shortest ≤ length message) where
-      pub a-long-message-is-refused : longest < length message → packingOf BadLength reply ≡ packOf message reply
+    module _ (long-enough : shortestMessage ≤ length message) where
+      pub a-long-message-is-refused : messageSize < length message → packingOf BadLength reply ≡ packOf message reply
       unfolding packOf
       a-long-message-is-refused l =
-          rw (le-ltb (length reply) room roomy, le-ltb (length message) shortest long-enough, lt-ltb longest (length message) l)
+          rw (le-ltb (length reply) replySize roomy, le-ltb (length message) shortestMessage long-enough, lt-ltb messageSize (length message) l)
 
-      module _ (short-enough : length message ≤ longest) where
+      module _ (short-enough : length message ≤ messageSize) where
         pub a-message-of-legal-length-is-packed
             : packOf message reply
             ≡ record { answer = 0; sent = length (packedOf message); reply = packedOf message ++ drop (length (packedOf message)) reply }
         unfolding packOf
         a-message-of-legal-length-is-packed =
-            rw (le-ltb (length reply) room roomy, le-ltb (length message) shortest long-enough, le-ltb longest (length message) short-enough)
+            rw (le-ltb (length reply) replySize roomy, le-ltb (length message) shortestMessage long-enough, le-ltb messageSize (length message) short-enough)
 
         pub a-laid-message-is-sent
             : (n : ℕ) (written : List ℕ)

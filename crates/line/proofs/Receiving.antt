@@ -9,8 +9,8 @@ use lib.ListN.{length, set}
 use lib.Seq.{set-out}
 use Rattle.line.specs.Framing.{fend, fesc, tfend, tfesc}
 use Rattle.line.specs.Receiver.{
-  Outcome,
-  outcomeOf,
+  Reception,
+  receptionOf,
   opened,
   takenOf,
   closedOf,
@@ -69,8 +69,8 @@ module _ (largest count : ℕ) where
   past-the-largest-the-count-stays h = rw (lt-leb count largest h)
 
 -- the buffer is left as it came
-pub with-nothing-stored : {r s : Received} (message : List ℕ) → r ≡ s → outcomeOf r message ≡ outcomeOf s message
-with-nothing-stored message e = ap (λ (r : Received). outcomeOf r message) e
+pub with-nothing-stored : {r s : Received} (message : List ℕ) → r ≡ s → receptionOf r message ≡ receptionOf s message
+with-nothing-stored message e = ap (λ (r : Received). receptionOf r message) e
 
 -- an unpacked byte, put together from what the callees say
 pub unpacking-is-storing-and-counting
@@ -78,11 +78,11 @@ pub unpacking-is-storing-and-counting
     → stored ≡ storedOf largest count byte message
     → counted ≡ countedOf largest count
     → r ≡ takenOf Run counted
-    → outcomeOf r stored ≡ unpackedOf largest count byte message
+    → receptionOf r stored ≡ unpackedOf largest count byte message
 unpacking-is-storing-and-counting largest count byte counted message stored r s n e = cc
 
 -- the byte after FESC; `o` is what the callee leaves
-module _ (largest count byte : ℕ) (message : List ℕ) (o : Outcome) where
+module _ (largest count byte : ℕ) (message : List ℕ) (o : Reception) where
   pub an-escaped-FEND-is-unpacked
       : byte ≡ tfend
       → o ≡ unpackedOf largest count fend message
@@ -98,7 +98,7 @@ module _ (largest count byte : ℕ) (message : List ℕ) (o : Outcome) where
   an-escaped-FESC-is-unpacked b e = rw b e
 
   pub another-byte-is-a-fault
-      : (byte ≡ tfend → ⊥) → (byte ≡ tfesc → ⊥) → o ≡ outcomeOf (takenOf Fault count) message → o ≡ afterEscapeOf largest count byte message
+      : (byte ≡ tfend → ⊥) → (byte ≡ tfesc → ⊥) → o ≡ receptionOf (takenOf Fault count) message → o ≡ afterEscapeOf largest count byte message
   unfolding afterEscapeOf
   another-byte-is-a-fault p q e = rw (ne-eqb byte tfend p, ne-eqb byte tfesc q) e
 
@@ -112,21 +112,21 @@ module _ (largest : ℕ) (receiver : Receiver) (byte : ℕ) (message : List ℕ)
   unfolding receiveOf
   a-FEND-closes heard b e = rw (b, e)
 
-  module _ (o : Outcome) (b : byte ≡ fend → ⊥) where
+  module _ (o : Reception) (b : byte ≡ fend → ⊥) where
     inside : o ≡ insideOf largest (receiver .place) (receiver .count) byte message → o ≡ receiveOf largest receiver byte message
     unfolding receiveOf
     inside e = rw (ne-eqb byte fend b) e
 
     pub a-fresh-receiver-throws-away
         : receiver .place ≡ Fresh
-        → o ≡ outcomeOf (takenOf (receiver .place) (receiver .count)) message
+        → o ≡ receptionOf (takenOf (receiver .place) (receiver .count)) message
         → o ≡ receiveOf largest receiver byte message
     unfolding insideOf
     a-fresh-receiver-throws-away p e = inside (rw p (rw p at e))
 
     pub a-faulty-run-throws-away
         : receiver .place ≡ Fault
-        → o ≡ outcomeOf (takenOf (receiver .place) (receiver .count)) message
+        → o ≡ receptionOf (takenOf (receiver .place) (receiver .count)) message
         → o ≡ receiveOf largest receiver byte message
     unfolding insideOf
     a-faulty-run-throws-away p e = inside (rw p (rw p at e))
@@ -134,7 +134,7 @@ module _ (largest : ℕ) (receiver : Receiver) (byte : ℕ) (message : List ℕ)
     pub a-FESC-is-remembered
         : receiver .place ≡ Run
         → byte ≡ fesc
-        → o ≡ outcomeOf (takenOf Escape (receiver .count)) message
+        → o ≡ receptionOf (takenOf Escape (receiver .count)) message
         → o ≡ receiveOf largest receiver byte message
     unfolding insideOf
     a-FESC-is-remembered p f e = inside (rw (p, f) e)

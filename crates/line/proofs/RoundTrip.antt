@@ -12,7 +12,7 @@ use lib.Seq.{take-all, take-append-seam}
 use Rattle.line.specs.Framing.{fend, fesc, tfend, tfesc}
 use Rattle.line.specs.Receiver.{opened, closedOf, hearing, feedOf}
 use Rattle.line.specs.Unpacking.{Unpacked, first, unpackOf, NoFend, heardOf, keptOf}
-use Rattle.line.specs.Packing.{escapedOf, bodyOf, packedOf, shortest, longest, room, Packing, answerOf, sentOf, packingOf, packOf}
+use Rattle.line.specs.Packing.{escapedOf, bodyOf, packedOf, shortestMessage, messageSize, replySize, Packing, packNumberOf, packSentOf, packingOf, packOf}
 use Rattle.line.specs.Delivery.{deliveredOf}
 use Rattle.line.specs.declared.receiver.Heard.the-variants.{Taken, Message}
 use Rattle.line.specs.declared.receiver.Receiver.{Receiver}
@@ -94,14 +94,14 @@ module _
 -- length, and `sent` hands back the first bytes of that buffer, as many as the answer says
 module _
     (message reply : List ℕ)
-    (long-enough : shortest ≤ length message)
-    (short-enough : length message ≤ longest)
-    (roomy : room ≤ length reply)
+    (long-enough : shortestMessage ≤ length message)
+    (short-enough : length message ≤ messageSize)
+    (roomy : replySize ≤ length reply)
     (packed : Packed)
     (written : List ℕ)
     (allowed : packingOf packed written ≡ packOf message reply)
   where
-    pub what-pack-sends-is-the-packed-message : (answerOf packed ≡ 0) × (take (sentOf packed) written ≡ packedOf message)
+    pub what-pack-sends-is-the-packed-message : (packNumberOf packed ≡ 0) × (take (packSentOf packed) written ≡ packedOf message)
     what-pack-sends-is-the-packed-message =
         let whole = allowed ∙ a-message-of-legal-length-is-packed message reply roomy long-enough short-enough in (
           ap (λ (p : Packing). p .answer) whole,
@@ -112,6 +112,6 @@ module _
         : (largest : ℕ) (receiver : Receiver) (buffer : List ℕ)
         → length message ≤ largest
         → length message ≤ length buffer
-        → feedOf largest receiver (take (sentOf packed) written) buffer ≡ deliveredOf receiver message buffer
+        → feedOf largest receiver (take (packSentOf packed) written) buffer ≡ deliveredOf receiver message buffer
     what-pack-sends-is-received-back largest receiver buffer within fits =
         rw (what-pack-sends-is-the-packed-message .1) (what-is-packed-is-received-back largest message buffer (omega arith) within fits receiver)

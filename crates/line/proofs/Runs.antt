@@ -10,7 +10,7 @@ use borrow.Author.Tests.{eqb-true, eqb-false}
 use lib.Dec.{eqb}
 use lib.ListN.{length, drop, replicate}
 use Rattle.line.specs.Framing.{fend, fesc, tfend, tfesc}
-use Rattle.line.specs.Receiver.{Outcome, fresh, opened, closedOf, storedOf, countedOf, afterEscapeOf, receiveOf, hearing, feedOf}
+use Rattle.line.specs.Receiver.{Reception, fresh, opened, closedOf, storedOf, countedOf, afterEscapeOf, receiveOf, hearing, feedOf}
 use Rattle.line.specs.Unpacking.{Unpacked, faulty, first, unpackOf, unpackEscapedOf, NoFend, heardOf, keptOf}
 use Rattle.line.specs.declared.receiver.Place.{Place}
 use Rattle.line.specs.declared.receiver.Place.the-variants.{Run, Escape, Fault}
@@ -99,7 +99,7 @@ module _ (largest : ℕ) where
     Next unpacked = Closes Run (countedOf largest count) (storedOf largest count unpacked message) run (unpackOf run)
 
     completed
-        : (o : Outcome)
+        : (o : Reception)
         → o ≡ afterEscapeOf largest count byte message
         → o ≡ receiveOf largest (record { place = Escape; count = count }) byte message
     completed o e = an-escape-is-completed largest (record { place = Escape; count = count }) byte message o (n .0) refl e

@@ -5,8 +5,8 @@ use mathlib.Core.Path.{_≡_, refl, sym, _∙_, ap}
 use mathlib.Core.List.{List}
 use native.Mathlib.Omega.{arith}
 use lib.ListN.{take}
-use Rattle.line.specs.Receiver.{Outcome, outcomeOf, receiveOf}
-use Rattle.line.specs.Packing.{Packing, packingOf, packOf, answerOf, sentOf}
+use Rattle.line.specs.Receiver.{Reception, receptionOf, receiveOf}
+use Rattle.line.specs.Packing.{Packing, packingOf, packOf, packNumberOf, packSentOf}
 use Rattle.line.specs.declared.receiver.Receiver.{Receiver}
 use Rattle.line.specs.declared.receiver.Received.{Received}
 use Rattle.line.specs.declared.packing.Packed.{Packed}
@@ -14,15 +14,15 @@ use Rattle.line.specs.declared.packing.Packed.the-variants.{Sent, ShortR
 
 pub receive-allows-one-outcome
     : (largest : ℕ) (receiver : Receiver) (byte : ℕ) (message : List ℕ) (r s : Received) (l m : List ℕ)
-    → outcomeOf r l ≡ receiveOf largest receiver byte message
-    → outcomeOf s m ≡ receiveOf largest receiver byte message
+    → receptionOf r l ≡ receiveOf largest receiver byte message
+    → receptionOf s m ≡ receiveOf largest receiver byte message
     → (r ≡ s) × (l ≡ m)
 receive-allows-one-outcome largest receiver byte message r s l m a b =
     let same = a ∙ sym b in
-    (ap (λ (o : Outcome). record { receiver = o .receiver; heard = o .heard }) same, ap (λ (o : Outcome). o .message) same)
+    (ap (λ (o : Reception). record { receiver = o .receiver; heard = o .heard }) same, ap (λ (o : Reception). o .message) same)
 
 -- number and bytes sent tell the cases of `Packed` apart
-one-case : (r s : Packed) → answerOf r ≡ answerOf s → sentOf r ≡ sentOf s → r ≡ s
+one-case : (r s : Packed) → packNumberOf r ≡ packNumberOf s → packSentOf r ≡ packSentOf s → r ≡ s
 one-case (Sent m) (Sent n) a b = ap Sent b
 one-case (Sent m) ShortReply a b = absurd (omega (arith, a))
 one-case (Sent m) BadLength a b = absurd (omega (arith, a))

@@ -22,15 +22,16 @@ bodyOf (byte ∷ message) = escapedOf byte ++ bodyOf message
 abbrev pub packedOf : List ℕ → List ℕ
 packedOf message = fend ∷ (bodyOf message ++ (fend ∷ []))
 
--- 01, One byte in, one answer out: the shortest and the longest message that is packed, and the room that a reply buffer must have
-abbrev pub shortest : ℕ
-shortest = 5
+-- 01, The unit and its neighbours and The message: the shortest and the longest message, which a message buffer must hold, and the least
+-- length of a reply buffer
+abbrev pub shortestMessage : ℕ
+shortestMessage = 5
 
-abbrev pub longest : ℕ
-longest = 1_033
+abbrev pub messageSize : ℕ
+messageSize = 1_033
 
-abbrev pub room : ℕ
-room = 2_068
+abbrev pub replySize : ℕ
+replySize = 2_068
 
 -- what packing leaves: the answer's number in 01, the number of bytes sent, and the reply buffer
 pub record Packing : Type 0 where
@@ -39,27 +40,27 @@ pub record Packing : Type 0 where
   pub reply : List ℕ
 
 -- 01's number for each case of `Packed`
-abbrev pub answerOf : Packed → ℕ
-answerOf (Sent n) = 0
-answerOf ShortReply = 25
-answerOf BadLength = 35
+abbrev pub packNumberOf : Packed → ℕ
+packNumberOf (Sent n) = 0
+packNumberOf ShortReply = 25
+packNumberOf BadLength = 35
 
 -- the bytes sent in each case of `Packed`
-abbrev pub sentOf : Packed → ℕ
-sentOf (Sent n) = n
-sentOf ShortReply = 0
-sentOf BadLength = 0
+abbrev pub packSentOf : Packed → ℕ
+packSentOf (Sent n) = n
+packSentOf ShortReply = 0
+packSentOf BadLength = 0
 
 -- what `pack` gives back, with the reply buffer as it leaves it
 abbrev pub packingOf : Packed → List ℕ → Packing
-packingOf packed reply = record { answer = answerOf packed; sent = sentOf packed; reply = reply }
+packingOf packed reply = record { answer = packNumberOf packed; sent = packSentOf packed; reply = reply }
 
 -- 01, One byte in, one answer out: "Packing alone gives 25 for a reply buffer under 2,068 bytes, then 35, and writes nothing; else it
 -- answers 0", and the packed message is the first part of the reply buffer, whose "other bytes .. are unchanged"
 unfoldable pub packOf : List ℕ → List ℕ → Packing
 packOf message reply =
-    cond (ltb (length reply) room)
+    cond (ltb (length reply) replySize)
     (record { answer = 25; sent = 0; reply = reply })
-    (cond (ltb (length message) shortest || ltb longest (length message))
+    (cond (ltb (length message) shortestMessage || ltb messageSize (length message))
     (record { answer = 35; sent = 0; reply = reply })
     (record { answer = 0; sent = length (packedOf message); reply = packedOf message ++ drop (length (packedOf message)) reply }))

@@ -14,14 +14,14 @@ use Rattle.line.specs.declared.receiver.Receiver.{Receiver}
 use Rattle.line.specs.declared.receiver.Received.{Received}
 
 -- what one byte leaves
-pub record Outcome : Type 0 where
+pub record Reception : Type 0 where
   pub receiver : Receiver
   pub heard : Heard
   pub message : List ℕ
 
 -- what `receive` gives back, with the message buffer as it leaves it
-abbrev pub outcomeOf : Received → List ℕ → Outcome
-outcomeOf r message = record { receiver = r .receiver; heard = r .heard; message = message }
+abbrev pub receptionOf : Received → List ℕ → Reception
+receptionOf r message = record { receiver = r .receiver; heard = r .heard; message = message }
 
 -- "a fresh receiver": no FEND has come
 abbrev pub fresh : Receiver
@@ -53,29 +53,29 @@ unfoldable pub countedOf : ℕ → ℕ → ℕ
 countedOf largest count = cond (leb count largest) (count + 1) count
 
 -- one unpacked byte, counted and stored
-abbrev pub unpackedOf : ℕ → ℕ → ℕ → List ℕ → Outcome
-unpackedOf largest count byte message = outcomeOf (takenOf Run (countedOf largest count)) (storedOf largest count byte message)
+abbrev pub unpackedOf : ℕ → ℕ → ℕ → List ℕ → Reception
+unpackedOf largest count byte message = receptionOf (takenOf Run (countedOf largest count)) (storedOf largest count byte message)
 
 -- "FESC TFEND is the byte 0xC0, FESC TFESC is 0xDB; FESC and anything else is a framing fault"; the count stops at the fault
-unfoldable pub afterEscapeOf : ℕ → ℕ → ℕ → List ℕ → Outcome
+unfoldable pub afterEscapeOf : ℕ → ℕ → ℕ → List ℕ → Reception
 afterEscapeOf largest count byte message =
     cond (eqb byte tfend)
     (unpackedOf largest count fend message)
     (cond (eqb byte tfesc)
     (unpackedOf largest count fesc message)
-    (outcomeOf (takenOf Fault count) message))
+    (receptionOf (takenOf Fault count) message))
 
 -- a byte other than FEND: "a fresh receiver throws away everything before the first FEND, uncounted"; bytes "after a framing fault, are
 -- not stored", and nothing in them means anything
-unfoldable pub insideOf : ℕ → Place → ℕ → ℕ → List ℕ → Outcome
-insideOf largest Fresh count byte message = outcomeOf (takenOf Fresh count) message
+unfoldable pub insideOf : ℕ → Place → ℕ → ℕ → List ℕ → Reception
+insideOf largest Fresh count byte message = receptionOf (takenOf Fresh count) message
 insideOf largest Run count byte message =
-    cond (eqb byte fesc) (outcomeOf (takenOf Escape count) message) (unpackedOf largest count byte message)
+    cond (eqb byte fesc) (receptionOf (takenOf Escape count) message) (unpackedOf largest count byte message)
 insideOf largest Escape count byte message = afterEscapeOf largest count byte message
-insideOf largest Fault count byte message = outcomeOf (takenOf Fault count) message
+insideOf largest Fault count byte message = receptionOf (takenOf Fault count) message
 
 -- one byte: "closing a run stores nothing in the message buffer. After any FEND, what follows is read without regard to the run before it."
-unfoldable pub receiveOf : ℕ → Receiver → ℕ → List ℕ → Outcome
+unfoldable pub receiveOf : ℕ → Receiver → ℕ → List ℕ → Reception
 receiveOf largest receiver byte message =
     cond (eqb byte fend)
     (record { receiver = opened; heard = closedOf (receiver .place) (receiver .count); message = message })

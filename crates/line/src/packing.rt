@@ -9,12 +9,12 @@ ghost use lib.ListN.{length, take};
 ghost use lib.Seq.{sets};
 ghost use Rattle.line.specs.Packing.{packingOf, packOf, escapedOf};
 
-// The shortest and the longest message that is packed, and the room that the longest may take.
-const SHORTEST: usize = 5;
+// The shortest and the longest message, and the room that the longest may take when it is packed.
+pub const SHORTEST_MESSAGE: usize = 5;
 
-const LONGEST: usize = 1_033;
+pub const MESSAGE_SIZE: usize = 1_033;
 
-const ROOM: usize = 2_068;
+pub const REPLY_SIZE: usize = 2_068;
 
 pub enum Packed {
     // This many bytes are written, from the start of the reply buffer.
@@ -49,13 +49,13 @@ fn put(byte: u8, at: usize, reply: &mut [u8]) -> usize
 pub fn pack(message: &[u8], reply: &mut [u8]) -> Packed
     ensures { λ r. ⌜ packingOf r (now (reply .exit)) ≡ packOf (now (message .entry)) (now (reply .entry)) ⌝ }
 {
-    if reply.len() < ROOM {
+    if reply.len() < REPLY_SIZE {
         return Packed::ShortReply;
     }
-    if message.len() < SHORTEST {
+    if message.len() < SHORTEST_MESSAGE {
         return Packed::BadLength;
     }
-    if LONGEST < message.len() {
+    if MESSAGE_SIZE < message.len() {
         return Packed::BadLength;
     }
     reply[0] = FEND;

@@ -5,7 +5,7 @@ use super::framing::FESC;
 use super::framing::TFEND;
 use super::framing::TFESC;
 ghost use mathlib.Core.Path.{_≡_};
-ghost use Rattle.line.specs.Receiver.{outcomeOf, receiveOf, takenOf, storedOf, countedOf, unpackedOf, afterEscapeOf, closedOf};
+ghost use Rattle.line.specs.Receiver.{receptionOf, receiveOf, takenOf, storedOf, countedOf, unpackedOf, afterEscapeOf, closedOf};
 
 // Where the receiver stands.
 pub enum Place {
@@ -95,7 +95,7 @@ fn counted(largest: u16, count: usize) -> usize
 
 // One unpacked byte, stored and counted; the run goes on.
 fn unpacked(largest: u16, count: usize, byte: u8, message: &mut [u8]) -> Received
-    ensures { λ r. ⌜ outcomeOf r (now (message .exit)) ≡ unpackedOf largest count byte (now (message .entry)) ⌝ }
+    ensures { λ r. ⌜ receptionOf r (now (message .exit)) ≡ unpackedOf largest count byte (now (message .entry)) ⌝ }
 {
     store(largest, count, byte, message);
     taken(Place::Run, counted(largest, count))
@@ -103,7 +103,7 @@ fn unpacked(largest: u16, count: usize, byte: u8, message: &mut [u8]) -> Receive
 
 // The byte after FESC.
 fn after_escape(largest: u16, count: usize, byte: u8, message: &mut [u8]) -> Received
-    ensures { λ r. ⌜ outcomeOf r (now (message .exit)) ≡ afterEscapeOf largest count byte (now (message .entry)) ⌝ }
+    ensures { λ r. ⌜ receptionOf r (now (message .exit)) ≡ afterEscapeOf largest count byte (now (message .entry)) ⌝ }
 {
     if byte == TFEND {
         return unpacked(largest, count, FEND, message);
@@ -117,7 +117,7 @@ fn after_escape(largest: u16, count: usize, byte: u8, message: &mut [u8]) -> Rec
 // One byte from the line. `largest` is the length of the largest message that is taken. FEND is looked for first: it means the same
 // wherever the receiver stands.
 pub fn receive(largest: u16, receiver: Receiver, byte: u8, message: &mut [u8]) -> Received
-    ensures { λ r. ⌜ outcomeOf r (now (message .exit)) ≡ receiveOf largest receiver byte (now (message .entry)) ⌝ }
+    ensures { λ r. ⌜ receptionOf r (now (message .exit)) ≡ receiveOf largest receiver byte (now (message .entry)) ⌝ }
 {
     let place = receiver.place;
     let count = receiver.count;

@@ -3,38 +3,10 @@ use mathlib.Core.Path.{_≡_, refl}
 use mathlib.Core.Bool.{true, false}
 use mathlib.Core.List.{List, [], _∷_}
 use Prim.Native.Nat.{ℕ}
-use lib.ListN.{getD, replicate}
-use Rattle.crc.specs.Sum.{bitStep, bitSteps, byteStep, sumFrom, sumOf, carried}
-use Rattle.crc.specs.Joining.{joinedOf, joinAll}
-use Rattle.memory.specs.declared.fram.Found.the-variants.{At, Outside}
-use Rattle.memory.specs.Bytes.{stretch, stored}
+use lib.ListN.{getD}
+use Rattle.memory.specs.Bytes.{stretch}
 use Rattle.memory.specs.Counts.{countedUp}
 use Rattle.memory.specs.Edac.{modePlace, insideEdac, fileShown}
-use Rattle.memory.specs.Fram.{refreshed, kept, storeOf, partsFrom, rangeSum, placeOf}
-
--- Two blocks of zeros.
-abbrev zeros : List ℕ
-zeros = replicate 512 0
-
--- A store across a block's edge refreshes both sums, though both were altered.
-pub a-store-across-an-edge : storeOf (kept zeros (1 ∷ 2 ∷ [])) 255 (0xAB ∷ 0xCD ∷ []) .sums ≡ 0x0C5B ∷ 0x8186 ∷ []
-unfolding storeOf stored refreshed sumOf sumFrom byteStep bitSteps bitStep
-a-store-across-an-edge = refl
-
--- A store that ends at the edge refreshes the one sum.
-pub a-store-up-to-an-edge : storeOf (kept zeros (1 ∷ 2 ∷ [])) 255 (0xAB ∷ []) .sums ≡ 0x0C5B ∷ 2 ∷ []
-unfolding storeOf stored refreshed sumOf sumFrom byteStep bitSteps bitStep
-a-store-up-to-an-edge = refl
-
--- A range of exactly one block enters by its kept sum, though that was altered.
-pub a-range-of-one-block : rangeSum (kept zeros (0x1234 ∷ 0x5678 ∷ [])) 256 512 ≡ 0x5678
-unfolding rangeSum partsFrom joinAll joinedOf carried sumOf sumFrom byteStep bitSteps bitStep
-a-range-of-one-block = refl
-
--- One byte less, and the block enters by its bytes.
-pub a-range-of-one-byte-less : rangeSum (kept zeros (0x1234 ∷ 0x5678 ∷ [])) 256 511 ≡ 0x3B67
-unfolding rangeSum partsFrom joinAll joinedOf carried sumOf sumFrom byteStep bitSteps bitStep
-a-range-of-one-byte-less = refl
 
 -- P10, in any memory with that mode and that value.
 pub P10 : (edac : List ℕ) → getD edac modePlace 0 ≡ 0x03 → stretch 0 4 edac ≡ 0x00 ∷ 0x00 ∷ 0x80 ∷ 0x3F ∷ []
@@ -50,28 +22,6 @@ starts-one-late = refl
 
 pub is-one-too-long : insideEdac 510 1027 ≡ false
 is-one-too-long = refl
-
--- The fitted memory is inside as a whole, and no byte before or after it is.
-pub the-whole-memory : placeOf 0x20040000 256 0x20040000 256 ≡ At 0
-unfolding placeOf
-the-whole-memory = refl
-
-pub its-last-byte : placeOf 0x20040000 256 0x200400FF 1 ≡ At 255
-unfolding placeOf
-its-last-byte = refl
-
-pub one-past-its-last-byte : placeOf 0x20040000 256 0x200400FF 2 ≡ Outside
-unfolding placeOf
-one-past-its-last-byte = refl
-
-pub one-before-its-first-byte : placeOf 0x20040000 256 0x2003FFFF 2 ≡ Outside
-unfolding placeOf
-one-before-its-first-byte = refl
-
--- Addresses do not wrap.
-pub past-the-last-address : placeOf 0 256 0xFFFFFFFF 2 ≡ Outside
-unfolding placeOf
-past-the-last-address = refl
 
 -- A count reaches its largest value and stays there.
 pub the-last-count : countedUp (0 ∷ 0xFFFFFFFE ∷ []) 1 ≡ 0 ∷ 0xFFFFFFFF ∷ []

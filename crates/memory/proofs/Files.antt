@@ -6,8 +6,8 @@ use native.Mathlib.Omega.{arith}
 use lib.ListN.{length, take, drop, set, getD, length-set, length-drop}
 use lib.Seq.{take-all}
 use Rattle.memory.specs.Bytes.{stretch, stored}
-use Rattle.memory.specs.Edac.{edacSize, modePlace, bytesOf, bodySize, shownSize, fileShown, fileStored}
-use Rattle.memory.proofs.Stretches.{length-of-a-stretch, a-store-keeps-the-length, a-byte-then-a-store}
+use Rattle.memory.specs.Edac.{edacSize, modePlace, byteAddress, bodySize, shownSize, fileShown, fileStored}
+use Rattle.memory.proofs.Stretches.{length-of-a-stretch, a-byte-then-a-store}
 
 pub size-of-file-0 : (file : ℕ) → file ≡ 0 → bodySize file ≡ 5
 unfolding bodySize
@@ -21,17 +21,7 @@ size-of-another (suc n) other = refl
 pub a-file-is-shown-in-its-size : (edac : List ℕ) (file : ℕ) → length edac ≡ edacSize → file < 256 → length (fileShown edac file) ≡ shownSize file
 unfolding fileShown bodySize
 a-file-is-shown-in-its-size edac zero size small = ap (λ (n : ℕ). suc (suc n)) (length-of-a-stretch edac 0 4 (omega arith))
-a-file-is-shown-in-its-size edac (suc n) size small = ap suc (length-of-a-stretch edac (bytesOf (suc n)) 4 (omega arith))
-
-pub a-file-stored-keeps-the-length : (edac : List ℕ) (file : ℕ) (body : List ℕ) → length edac ≡ edacSize → file < 256 → length body ≡ bodySize file
-    → length (fileStored edac file body) ≡ edacSize
-unfolding fileStored bodySize
-a-file-stored-keeps-the-length edac zero body size small whole =
-    a-store-keeps-the-length (set edac modePlace (getD body 0 0)) 0 (drop 1 body) (simp (length-set, length-drop) (omega arith))
-    ∙ length-set edac modePlace (getD body 0 0)
-    ∙ size
-a-file-stored-keeps-the-length edac (suc n) body size small whole =
-    a-store-keeps-the-length edac (bytesOf (suc n)) body (omega arith) ∙ size
+a-file-is-shown-in-its-size edac (suc n) size small = ap suc (length-of-a-stretch edac (byteAddress (suc n)) 4 (omega arith))
 
 -- ---- showing
 
@@ -44,13 +34,13 @@ show-file-0 edac reply at file e fits =
     (a-byte-then-a-store (set reply at 0) (at + 1) (getD edac modePlace 0) (stretch 0 4 edac) (rw length-set fits)
     ∙ a-byte-then-a-store reply at 0 (getD edac modePlace 0 ∷ stretch 0 4 edac) (omega arith))
 
-pub show-another : (edac reply : List ℕ) (at file start : ℕ) → (file ≡ 0 → ⊥) → at < length reply → start ≡ bytesOf file
+pub show-another : (edac reply : List ℕ) (at file start : ℕ) → (file ≡ 0 → ⊥) → at < length reply → start ≡ byteAddress file
     → stored (set reply at file) (at + 1) (take (start + 4 - start) (drop start edac)) ≡ stored reply at (fileShown edac file)
 unfolding fileShown
 show-another edac reply at zero start other fits e = absurd (other refl)
 show-another edac reply at (suc n) start other fits e =
     let four : start + 4 - start ≡ 4 = omega arith in
-    rw (four, e) (a-byte-then-a-store reply at (suc n) (stretch (bytesOf (suc n)) 4 edac) fits)
+    rw (four, e) (a-byte-then-a-store reply at (suc n) (stretch (byteAddress (suc n)) 4 edac) fits)
 
 -- ---- storing
 
@@ -61,7 +51,7 @@ store-file-0 edac body file e =
     rw e
     (ap (stored (set edac modePlace (getD body 0 0)) 0) (take-all (length body - 1) (drop 1 body) (simp length-drop (omega arith))))
 
-pub store-another : (edac body : List ℕ) (file start : ℕ) → (file ≡ 0 → ⊥) → start ≡ bytesOf file → stored edac start body ≡ fileStored edac file body
+pub store-another : (edac body : List ℕ) (file start : ℕ) → (file ≡ 0 → ⊥) → start ≡ byteAddress file → stored edac start body ≡ fileStored edac file body
 unfolding fileStored
 store-another edac body zero start other e = absurd (other refl)
 store-another edac body (suc n) start other e = rw e

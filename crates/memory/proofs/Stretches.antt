@@ -2,7 +2,7 @@
 use mathlib.Core.Path.{_≡_, refl, sym, ap, ap₂, _∙_}
 use mathlib.Core.List.{List, [], _∷_, _++_, append-assoc}
 use Prim.Native.Nat.{ℕ, suc, _+_, _-_, _≤_, _<_}
-use native.Mathlib.Nat.{zero-add, add-assoc, le-refl, le-of-lt}
+use native.Mathlib.Nat.{zero-add, add-assoc, le-refl}
 use native.Mathlib.Numerals.{add-one}
 use native.Mathlib.Omega.{arith}
 use lib.ListN.{length, take, drop, set, length-append, length-drop, take-append-drop}
@@ -106,22 +106,12 @@ pub stored-first-is-begun : (buffer bytes : List ℕ) → stored buffer 0 bytes 
 unfolding stored begun
 stored-first-is-begun buffer bytes = ap (λ (n : ℕ). bytes ++ drop n buffer) (zero-add (length bytes))
 
-pub a-begun-buffer-keeps-its-length : (buffer bytes : List ℕ) → length bytes ≤ length buffer → length (begun buffer bytes) ≡ length buffer
-unfolding begun
-a-begun-buffer-keeps-its-length buffer bytes fits = simp (length-append, length-drop) (omega arith)
-
 -- bytes stored right after the written part are written too
 pub a-begun-buffer-goes-on : (buffer xs ys : List ℕ) → stored (begun buffer xs) (length xs) ys ≡ begun buffer (xs ++ ys)
 a-begun-buffer-goes-on buffer xs ys =
     ap₂ (λ held n. stored held n ys) (sym (stored-first-is-begun buffer xs)) (sym (zero-add (length xs)))
     ∙ a-store-goes-on buffer 0 xs ys (omega arith)
     ∙ stored-first-is-begun buffer (xs ++ ys)
-
-pub a-begun-buffer-goes-on-by-a-byte : (buffer xs : List ℕ) (byte : ℕ) → length xs < length buffer
-    → set (begun buffer xs) (length xs) byte ≡ begun buffer (xs ++ (byte ∷ []))
-a-begun-buffer-goes-on-by-a-byte buffer xs byte fits =
-    a-byte-stored (begun buffer xs) (length xs) byte (rw (a-begun-buffer-keeps-its-length buffer xs (le-of-lt fits)) fits)
-    ∙ a-begun-buffer-goes-on buffer xs (byte ∷ [])
 
 pub the-written-part-is-handed-back : (buffer bytes : List ℕ) → take (length bytes) (begun buffer bytes) ≡ bytes
 unfolding begun

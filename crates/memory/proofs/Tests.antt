@@ -1,4 +1,4 @@
--- The tests of ranges and of counts, one law for each way through the code. Assumes nothing.
+-- The tests of EDAC ranges and of counts, one law for each way through the code. Assumes nothing.
 use mathlib.Core.Path.{_≡_, refl, sym, ap, _∙_}
 use mathlib.Core.Bool.{Bool, true, false}
 use mathlib.Core.List.{List}
@@ -8,10 +8,8 @@ use borrow.Author.Tests.{le-leb, lt-leb, leb-true, leb-false}
 use lib.Dec.{leb}
 use lib.ListN.{getD, set}
 use lib.Seq.{set-getD}
-use Rattle.memory.specs.declared.fram.Found.the-variants.{At, Outside}
-use Rattle.memory.specs.Counts.{largestCount, countedUp}
+use Rattle.memory.specs.Counts.{fullCount, countedUp}
 use Rattle.memory.specs.Edac.{edacSize, insideEdac}
-use Rattle.memory.specs.Fram.{placeOf}
 
 -- either side of a bound
 pub either-side : {P : Type 0} (a b : ℕ) → (a ≤ b → P) → (b < a → P) → P
@@ -32,33 +30,17 @@ starts-early-enough at count h =
     (λ early. le-leb at (edacSize - count) early ∙ sym (le-leb (at + count) edacSize (omega arith)))
     (λ late. lt-leb at (edacSize - count) late ∙ sym (lt-leb (at + count) edacSize (omega arith)))
 
--- ---- FRAM ranges
-
-pub before-the-memory : (first len address count : ℕ) → address < first → Outside ≡ placeOf first len address count
-unfolding placeOf
-before-the-memory first len address count h = simp (lt-leb first address h)
-
-pub past-the-memory : (first len address count : ℕ) → first ≤ address → first + len < address + count
-    → Outside ≡ placeOf first len address count
-unfolding placeOf
-past-the-memory first len address count h past = simp (le-leb first address h, lt-leb (address + count) (first + len) past)
-
-pub in-the-memory : (first len address count : ℕ) → first ≤ address → address + count ≤ first + len
-    → At (address - first) ≡ placeOf first len address count
-unfolding placeOf
-in-the-memory first len address count h fits = simp (le-leb first address h, le-leb (address + count) (first + len) fits)
-
 -- ---- counts
 
-pub one-more : (diagnostics : List ℕ) (channel : ℕ) → getD diagnostics channel 0 < largestCount
+pub one-more : (diagnostics : List ℕ) (channel : ℕ) → getD diagnostics channel 0 < fullCount
     → set diagnostics channel (getD diagnostics channel 0 + 1) ≡ countedUp diagnostics channel
 unfolding countedUp
 one-more diagnostics channel h =
-    let below : min (getD diagnostics channel 0 + 1) largestCount ≡ getD diagnostics channel 0 + 1 = omega arith in
+    let below : min (getD diagnostics channel 0 + 1) fullCount ≡ getD diagnostics channel 0 + 1 = omega arith in
     ap (set diagnostics channel) (sym below)
 
-pub no-more : (diagnostics : List ℕ) (channel : ℕ) → getD diagnostics channel 0 ≡ largestCount → diagnostics ≡ countedUp diagnostics channel
+pub no-more : (diagnostics : List ℕ) (channel : ℕ) → getD diagnostics channel 0 ≡ fullCount → diagnostics ≡ countedUp diagnostics channel
 unfolding countedUp
 no-more diagnostics channel e =
-    let full : min (getD diagnostics channel 0 + 1) largestCount ≡ getD diagnostics channel 0 = omega arith in
+    let full : min (getD diagnostics channel 0 + 1) fullCount ≡ getD diagnostics channel 0 = omega arith in
     sym (set-getD diagnostics channel 0) ∙ ap (set diagnostics channel) (sym full)

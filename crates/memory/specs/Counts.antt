@@ -3,10 +3,13 @@ use Prim.Native.Nat.{ℕ, _+_, min}
 use mathlib.Core.List.{List}
 use lib.ListN.{getD, set}
 
+abbrev pub channels : ℕ
+channels = 31
+
 -- A count stays at its largest value.
-abbrev pub largestCount : ℕ
-largestCount = 4294967295
+abbrev pub fullCount : ℕ
+fullCount = 4294967295
 
 -- The diagnostics with one more at a channel.
 unfoldable pub countedUp : List ℕ → ℕ → List ℕ
-countedUp diagnostics channel = set diagnostics channel (min (getD diagnostics channel 0 + 1) largestCount)
+countedUp diagnostics channel = set diagnostics channel (min (getD diagnostics channel 0 + 1) fullCount)

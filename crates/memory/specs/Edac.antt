@@ -14,8 +14,8 @@ abbrev pub modePlace : ℕ
 modePlace = 0x5C3
 
 -- A file address counts words of four bytes, an EDAC address bytes.
-abbrev pub bytesOf : ℕ → ℕ
-bytesOf file = 4 * file
+abbrev pub byteAddress : ℕ → ℕ
+byteAddress file = 4 * file
 
 -- An EDAC range must end at or below 1,536.
 abbrev pub insideEdac : ℕ → ℕ → Bool
@@ -33,9 +33,9 @@ shownSize file = bodySize file + 1
 -- What a reply shows of a file: file 0 gives 0, the mode byte, then bytes 0 to 3; others give file address and four bytes.
 unfoldable pub fileShown : List ℕ → ℕ → List ℕ
 fileShown edac zero = 0 ∷ getD edac modePlace 0 ∷ stretch 0 4 edac
-fileShown edac (suc n) = suc n ∷ stretch (bytesOf (suc n)) 4 edac
+fileShown edac (suc n) = suc n ∷ stretch (byteAddress (suc n)) 4 edac
 
 -- EDAC memory after a file's body is stored: of file 0 the mode byte, then bytes 0 to 3; of others four bytes.
 unfoldable pub fileStored : List ℕ → ℕ → List ℕ → List ℕ
 fileStored edac zero body = stored (set edac modePlace (getD body 0 0)) 0 (drop 1 body)
-fileStored edac (suc n) body = stored edac (bytesOf (suc n)) body
+fileStored edac (suc n) body = stored edac (byteAddress (suc n)) body

@@ -4,7 +4,10 @@ ghost use mathlib.Core.Path.{_≡_};
 ghost use Prim.Native.Nat.{_+_, _≤_};
 ghost use lib.ListN.{length};
 ghost use Rattle.memory.specs.Bytes.{stored};
-ghost use Rattle.memory.specs.Edac.{edacSize, bytesOf, insideEdac, bodySize, shownSize, fileShown, fileStored};
+ghost use Rattle.memory.specs.Edac.{edacSize, byteAddress, insideEdac, bodySize, shownSize, fileShown, fileStored};
+
+// How many bytes EDAC memory has.
+pub const EDAC_SIZE: usize = 1536;
 
 // Where the mode byte of file 0 stands.
 const MODE: usize = 0x5c3;
@@ -18,7 +21,7 @@ pub struct EdacAddress(pub u16);
 impl FileAddress {
     // The address of the file's first byte.
     pub fn bytes(self) -> EdacAddress
-        ensures { λ r. ⌜ r .0 ≡ bytesOf (self .0) ⌝ }
+        ensures { λ r. ⌜ r .0 ≡ byteAddress (self .0) ⌝ }
     {
         EdacAddress(4 * (self.0 as u16))
     }
@@ -28,10 +31,10 @@ impl FileAddress {
 pub fn holds(at: EdacAddress, count: usize) -> bool
     ensures { λ r. ⌜ r ≡ insideEdac (at .0) count ⌝ }
 {
-    if 1536 < count {
+    if EDAC_SIZE < count {
         return false;
     }
-    (at.0 as usize) <= 1536 - count
+    (at.0 as usize) <= EDAC_SIZE - count
 }
 
 // Writes what a reply shows of a file from `at` on, and answers the place after it.

@@ -1,6 +1,4 @@
-// The wheel's memory: EDAC by byte and by file, FRAM with a kept sum for each block, and the counts.
+// The wheel's memory apart from FRAM: EDAC by byte and by file, the counts, and how bytes are stored in any buffer.
 pub mod bytes;
 pub mod counts;
 pub mod edac;
-pub mod fram;
-mod gap;

@@ -1,5 +1,204 @@
-// A program's way to the outside, for a unit on standard input and output: its arguments, the bytes that flow in and out, and
-// what it says.
-pub mod arguments;
-pub mod flow;
-pub mod report;
+// A program's way to the outside, on standard input and output: the bytes that flow in and out by way of one buffer. What was read
+// stands in its first half, what waits to be written in its second.
+use libc::STDIN_FILENO;
+use libc::STDOUT_FILENO;
+use words::report;
+ghost use Prim.Native.Nat.{_<_};
+
+pub type Buffer = [u8; 131072];
+
+// Where the second half begins, and the last place in it that has room for the longest reply.
+const HALF: usize = 65_536;
+
+const LAST: usize = 129_004;
+
+// The byte to be fed, where the next one stands and where those that were read end, from where to where bytes wait to be
+// written, how many bytes were written and how many of these were FEND, and 1 while input and output are still there, then 0.
+// Every field has 64 bits, so that a copy has no gaps: on the way through a loop those cost more than all the rest.
+pub struct Flow {
+    pub byte: u64,
+    pub next: usize,
+    pub end: usize,
+    pub from: usize,
+    pub to: usize,
+    pub bytes: u64,
+    pub fends: u64,
+    pub open: u64,
+}
+
+pub fn fresh() -> Flow {
+    Flow {
+        byte: 0,
+        next: 0,
+        end: 0,
+        from: HALF,
+        to: HALF,
+        bytes: 0,
+        fends: 0,
+        open: 1,
+    }
+}
+
+fn closed(flow: Flow) -> Flow {
+    let mut now = flow;
+    now.open = 0;
+    now
+}
+
+// After a read or a write that failed: one that a signal broke off is tried again, any other is said and ends the flow.
+fn failed(flow: Flow, is_input: bool) -> Flow {
+    let error = os::errno();
+    if error == libc::EINTR {
+        return flow;
+    }
+    if is_input {
+        report::read_failed(error);
+    } else {
+        report::write_failed(error);
+    }
+    closed(flow)
+}
+
+// How many bytes are FEND.
+fn fends(bytes: &[u8]) -> u64 {
+    let mut count: u64 = 0;
+    let mut i = 0;
+    while i < bytes.len() {
+        count = std::num::wrapping_add_u64(count, (bytes[i] == 0xc0) as u64);
+        i += 1;
+    }
+    count
+}
+
+// What is left to write after a write took some bytes.
+fn written(flow: Flow, taken: &[u8]) -> Flow {
+    let mut now = flow;
+    now.from = std::num::wrapping_add_usize(now.from, taken.len());
+    now.bytes = std::num::wrapping_add_u64(now.bytes, taken.len() as u64);
+    now.fends = std::num::wrapping_add_u64(now.fends, fends(taken));
+    if now.from >= now.to {
+        now.from = HALF;
+        now.to = HALF;
+    }
+    now
+}
+
+// Writes once of what waits.
+fn write_once(flow: Flow, buffer: &[u8]) -> Flow {
+    let from = flow.from;
+    let to = flow.to;
+    if to > buffer.len() {
+        return closed(flow);
+    }
+    if from > to {
+        return closed(flow);
+    }
+    let waiting = &buffer[from..to];
+    let got = libc::write(STDOUT_FILENO, waiting);
+    if got < 0 {
+        return failed(flow, false);
+    }
+    let n = io::count(got, waiting);
+    if n == 0 {
+        report::takes_nothing();
+        return closed(flow);
+    }
+    written(flow, &waiting[..n])
+}
+
+// Reads once.
+fn read_once(flow: Flow, buffer: &mut [u8]) -> Flow {
+    let half = buffer.len() / 2;
+    let got = libc::read(STDIN_FILENO, &mut buffer[0..half]);
+    if got < 0 {
+        return failed(flow, true);
+    }
+    if got == 0 {
+        return closed(flow);
+    }
+    let mut now = flow;
+    now.next = 0;
+    now.end = io::count(got, buffer);
+    now
+}
+
+// Whether the bytes of the last read are used up, or the next reply might find no room.
+fn is_wanting(flow: Flow) -> bool {
+    flow.open > 0 && (flow.next >= flow.end || flow.to > LAST)
+}
+
+// One call of the system: a write where bytes wait, else a read.
+fn moved(flow: Flow, buffer: &mut Buffer) -> Flow {
+    if flow.from < flow.to {
+        return write_once(flow, buffer);
+    }
+    read_once(flow, buffer)
+}
+
+fn wide(byte: u8) -> u64 {
+    byte as u64
+}
+
+// The byte to be fed.
+pub fn byte(flow: Flow) -> u8 {
+    (flow.byte % 256) as u8
+}
+
+// The next byte that was read.
+fn taken(flow: Flow, buffer: &Buffer) -> Flow {
+    let at = flow.next;
+    if at >= HALF {
+        return closed(flow);
+    }
+    let mut now = flow;
+    now.byte = wide(buffer[at]);
+    now.next = at + 1;
+    now
+}
+
+// Puts a reply behind what waits. There is room for it: a byte is fed only where the longest reply has some.
+fn queued(flow: Flow, sent: usize, reply: &[u8], buffer: &mut [u8]) -> Flow {
+    let at = flow.to;
+    if sent == 0 {
+        return flow;
+    }
+    if sent > reply.len() {
+        return closed(flow);
+    }
+    if at > buffer.len() {
+        return closed(flow);
+    }
+    if sent > buffer.len() - at {
+        return closed(flow);
+    }
+    memory::bytes::put(&reply[0..sent], buffer, at);
+    let mut now = flow;
+    now.to = at + sent;
+    now
+}
+
+// The flow with its next byte, or at its end. Where the bytes of the last read are used up, what waits is written before the
+// next read.
+fn filled(flow: Flow, buffer: &mut Buffer) -> Flow {
+    let mut now = flow;
+    let mut turns = u64::MAX;
+    while turns > 0 && is_wanting(now) {
+        now = moved(now, buffer);
+        turns -= 1;
+    }
+    taken(now, buffer)
+}
+
+// The flow with its next byte, after a reply of so many bytes was put behind what waits.
+pub fn answered(flow: Flow, sent: usize, reply: &[u8; 2068], buffer: &mut Buffer) -> Flow {
+    filled(queued(flow, sent, reply, buffer), buffer)
+}
+
+// How many turns are left: none once input or output is at its end. A proved loop has to end, and nothing says that the input
+// does: the turns count down from a number that no run uses up.
+pub fn left(turns: u64, open: u64) -> u64
+    requires { ⌜ 0 < turns ⌝ }
+    ensures { λ r. ⌜ r < turns ⌝ }
+{
+    if open > 0 { turns - 1 } else { 0 }
+}

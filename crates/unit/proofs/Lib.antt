@@ -1,5 +1,2 @@
-pub mod Refusing
-pub mod Serving
-pub mod Judging
-pub mod Sealing
 pub mod Answering
+pub mod Serving

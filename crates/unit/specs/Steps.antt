@@ -1,50 +1,76 @@
 -- Set-up, and one byte in and one answer out: 01, "The unit and its neighbours" and "One byte in, one answer out". Assumes nothing.
-use Prim.Native.Nat.{ℕ}
+use Prim.Native.Nat.{ℕ, _-_}
 use mathlib.Core.List.{List}
-use lib.ListN.{length}
-use Rattle.line.specs.declared.receiver.Heard.{Heard}
-use Rattle.line.specs.declared.receiver.Heard.the-variants as heard
-use Rattle.line.specs.Receiver.{fresh, receiveOf}
-use Rattle.memory.specs.Fram.{freshSums}
-use Rattle.command.specs.declared.Mode.the-variants.{Bootloader}
-use Rattle.unit.specs.declared.Unit.{Unit}
-use Rattle.unit.specs.declared.Answer.{Answer}
-use Rattle.unit.specs.declared.Answer.the-variants.{Taken, Framing}
-use Rattle.unit.specs.declared.Fit.{Fit}
-use Rattle.unit.specs.declared.Fit.the-variants.{Fits, Unfit}
-use Rattle.unit.specs.World.{World, lengthsOf, Outcome, outcome, withReceiver, withMessage, withSums}
-use Rattle.unit.specs.Fitting.{messageSize, setUpFit, stepFit}
-use Rattle.unit.specs.Runs.{dropped, runOf}
+use lib.ListN.{length, getD}
+use Rattle.line.specs.Receiver.{fresh}
+use Rattle.memory.specs.Bytes.{stretch}
+use Rattle.memory.specs.Counts.{countedUp}
+use Rattle.blocks.specs.Fram.{freshSums}
+use Rattle.carrying.specs.declared.Mode.the-variants.{Bootloader}
+use Rattle.carrying.specs.Ending.{longestData, Ending}
+use Rattle.carrying.specs.Held.{Held, after}
+use Rattle.command.specs.Command.{commandOf}
+use Rattle.answer.specs.declared.Answer.the-variants.{Taken}
+use Rattle.judging.specs.declared.Unit.{Unit}
+use Rattle.judging.specs.declared.Verdict.{Verdict}
+use Rattle.judging.specs.declared.Verdict.the-variants.{Quiet, Dropped, Command}
+use Rattle.judging.specs.declared.fitting.Fit.{Fit}
+use Rattle.judging.specs.declared.fitting.Fit.the-variants.{Fits, Unfit}
+use Rattle.judging.specs.Fitting.{setUpFit}
+use Rattle.judging.specs.Judging.{judgeOf}
+use Rattle.replying.specs.Replies.{codeOf, saidOf}
+use Rattle.unit.specs.World.{World, lengthsOf, Outcome, outcome, withMode, withMessage, withDiagnostics, withReply, withSums, heldOf, withHeld}
 
--- A call that is refused changes nothing at all.
-abbrev pub unless : Fit → Unit → World → Outcome → Outcome
-unless (Unfit answer) u w served = outcome u answer w
-unless Fits u w served = served
+-- ---- set-up
 
 -- The record that a refused set-up hands back.
 abbrev pub nobody : Unit
 nobody = record { address = 0; mode = Bootloader; «fram_len» = 0; receiver = fresh }
 
+-- The record of a unit that was set up.
+abbrev pub somebody : ℕ → World → Unit
+somebody address w = record { address = address; mode = Bootloader; «fram_len» = length (w .fram); receiver = fresh }
+
+-- A refused set-up changes nothing that is lent.
+abbrev pub setUpAs : Fit → ℕ → World → Outcome
+setUpAs (Unfit answer) address w = outcome nobody answer w
+setUpAs Fits address w = outcome (somebody address w) Taken (withSums w (freshSums (w .fram)))
+
 -- Set-up computes all sums, starts in bootloader mode with a fresh receiver, answers 0 and changes nothing else that is lent.
 unfoldable pub setUpOf : ℕ → World → Outcome
-setUpOf address w =
-    unless (setUpFit address (lengthsOf w)) nobody w
-    (outcome (record { address = address; mode = Bootloader; «fram_len» = length (w .fram); receiver = fresh }) Taken
-    (withSums w (freshSums (w .fram))))
+setUpOf address w = setUpAs (setUpFit address (lengthsOf w)) address w
 
--- What was heard: a byte taken, an empty run, framing, or a run to judge.
-unfoldable pub heardOf : Unit → Heard → World → Outcome
-heardOf u heard.Taken w = outcome u Taken w
-heardOf u heard.Empty w = outcome u Taken w
-heardOf u heard.Framing w = dropped u Framing 0 w
-heardOf u (heard.Message count) w = runOf u count w
+-- ---- one byte in, one answer out
 
--- One byte received.
-unfoldable pub receivedOf : Unit → ℕ → World → Outcome
-receivedOf u byte w =
-    let got = receiveOf messageSize (u .receiver) byte (w .message) in
-    heardOf (withReceiver u (got .receiver)) (got .heard) (withMessage w (got .message))
+-- The address of the first byte of FRAM.
+abbrev pub firstOfFram : ℕ
+firstOfFram = 0x20040000
+
+-- A command that came to an ending, answered: what it changed, and what is said. `destination`, `source`, `control` and `field` are
+-- the command's.
+unfoldable pub answered : Unit → ℕ → ℕ → ℕ → List ℕ → Ending Held → World → Outcome
+answered u destination source control field ending w =
+    let held = after (heldOf u w) ending in
+    let s = saidOf destination source control field ending (w .reply) in
+    outcome (withMode u (held .mode)) (s .answer) (withReply (withHeld w held) (s .reply))
+
+-- A command for this unit, carried out and answered.
+abbrev pub orderedOf : Unit → ℕ → ℕ → ℕ → List ℕ → World → Outcome
+orderedOf u destination source control field w =
+    answered u destination source control field (commandOf longestData firstOfFram (codeOf control) (w .diagnostics) (heldOf u w) field) w
+
+-- The same of a sound message: its first `count` bytes are destination, source, control, data and CRC.
+unfoldable pub commandedOf : Unit → ℕ → World → Outcome
+commandedOf u count w =
+    orderedOf u (getD (w .message) 0 0) (getD (w .message) 1 0) (getD (w .message) 2 0) (stretch 3 (count - 5) (w .message)) w
+
+-- What a verdict comes to: an answer alone, a dropped run that is counted, or a command.
+unfoldable pub servedOf : Unit → Verdict → World → Outcome
+servedOf u (Quiet answer) w = outcome u answer w
+servedOf u (Dropped answer channel) w = outcome u answer (withDiagnostics w (countedUp (w .diagnostics) channel))
+servedOf u (Command count) w = commandedOf u count w
 
 -- One byte in, one answer out.
 unfoldable pub stepOf : Unit → ℕ → World → Outcome
-stepOf u byte w = unless (stepFit u (lengthsOf w)) u w (receivedOf u byte w)
+stepOf u byte w =
+    let j = judgeOf u byte (lengthsOf w) (w .message) in servedOf (j .unit) (j .verdict) (withMessage w (j .message))

@@ -2,14 +2,13 @@
 use Prim.Native.Nat.{ℕ}
 use mathlib.Core.List.{List}
 use lib.ListN.{length}
-use Rattle.line.specs.declared.receiver.Receiver.{Receiver}
-use Rattle.memory.specs.Fram.{Kept, kept}
-use Rattle.command.specs.declared.Mode.{Mode}
-use Rattle.command.specs.Command.{Held, held}
-use Rattle.unit.specs.declared.Unit.{Unit}
-use Rattle.unit.specs.declared.Answer.{Answer}
+use Rattle.blocks.specs.Fram.{kept}
+use Rattle.carrying.specs.declared.Mode.{Mode}
+use Rattle.carrying.specs.Held.{Held, held}
+use Rattle.judging.specs.declared.Unit.{Unit}
+use Rattle.answer.specs.declared.Answer.{Answer}
 use Rattle.unit.specs.declared.Stepped.{Stepped}
-use Rattle.unit.specs.declared.Lengths.{Lengths}
+use Rattle.judging.specs.declared.Lengths.{Lengths}
 
 pub record World : Type 0 where
   pub edac : List ℕ
@@ -47,10 +46,6 @@ abbrev pub outcomeOf : Stepped → World → Outcome
 outcomeOf r w = outcome (r .unit) (r .answer) w
 
 -- ---- one thing changed, and nothing else
-
-abbrev pub withReceiver : Unit → Receiver → Unit
-withReceiver u receiver =
-    record { address = u .address; mode = u .mode; «fram_len» = u .«fram_len»; receiver = receiver }
 
 abbrev pub withMode : Unit → Mode → Unit
 withMode u mode = record { address = u .address; mode = mode; «fram_len» = u .«fram_len»; receiver = u .receiver }

@@ -1,54 +1,27 @@
 // The unit: a record by value, set-up, and one byte in and one answer out.
-mod fitting;
-mod replying;
-mod running;
-
-use command::Mode;
-use line::receiver::Heard;
+pub use answer::Answer;
+use carrying::Mode;
+use judging::Lengths;
+pub use judging::Unit;
+use judging::Verdict;
+use judging::fitting::Fit;
+use judging::fitting::set_up_fit;
+use line::packing::MESSAGE_SIZE;
 use line::receiver::Place;
 use line::receiver::Receiver;
+use replying::CODES;
+use replying::CONTROL;
+use replying::CRC_SIZE;
+use replying::HEAD;
 ghost use mathlib.Core.Path.{_≡_};
+ghost use Prim.Native.Nat.{_≤_};
+ghost use lib.ListN.{length};
+ghost use Rattle.line.specs.Packing.{shortestMessage, messageSize, replySize};
+ghost use Rattle.memory.specs.Counts.{channels};
+ghost use Rattle.memory.specs.Edac.{edacSize};
+ghost use Rattle.blocks.specs.Fram.{blockStart};
 ghost use Rattle.unit.specs.World.{world, outcomeOf};
-ghost use Rattle.unit.specs.Fitting.{Fitted};
-ghost use Rattle.unit.specs.Steps.{setUpOf, receivedOf, stepOf};
-
-// What the unit is between two calls: its address, its mode, the length of FRAM that was set up, and its receiver.
-pub struct Unit {
-    pub address: u8,
-    pub mode: Mode,
-    pub fram_len: usize,
-    pub receiver: Receiver,
-}
-
-// What a call answers. A reply that is sent has so many bytes, the written first part of the reply buffer.
-pub enum Answer {
-    // A byte taken, or an empty run closed.
-    Taken,
-    // A command done: poll set, and poll clear.
-    Acked(usize),
-    Done,
-    // A command refused: poll set, and poll clear.
-    Nacked(usize),
-    Refused,
-    // A run dropped.
-    Framing,
-    Runt,
-    Oversize,
-    BadCrc,
-    // A sound message for another address.
-    Elsewhere,
-    // An access to memory not fitted.
-    Unfitted,
-    // A call refused: the unit's address, the length of EDAC memory, FRAM, sums, diagnostics, message or reply buffer, and the
-    // receiver's count.
-    BadAddress,
-    BadEdac,
-    BadFram,
-    BadSums,
-    BadDiagnostics,
-    BadBuffers,
-    BadCount,
-}
+ghost use Rattle.unit.specs.Steps.{setUpOf, commandedOf, stepOf};
 
 // An answer with the unit afterwards.
 pub struct Stepped {
@@ -56,21 +29,13 @@ pub struct Stepped {
     pub answer: Answer,
 }
 
-// The lengths of what is lent to a call.
-pub struct Lengths {
-    pub edac: usize,
-    pub fram: usize,
-    pub sums: usize,
-    pub diagnostics: usize,
-    pub message: usize,
-    pub reply: usize,
-}
+// The longest data field of a message, and where it ends in a buffer for one.
+const LONGEST_DATA: usize = 1028;
 
-// Whether a call can be served.
-pub enum Fit {
-    Fits,
-    Unfit(Answer),
-}
+const DATA_END: usize = 1031;
+
+// The address of the first byte of FRAM.
+const FIRST_OF_FRAM: u32 = 0x2004_0000;
 
 // Sets a unit up: computes all sums, in bootloader mode with a fresh receiver. A refused set-up hands back a record with unit
 // address 0, so that every later call with it is refused.
@@ -98,7 +63,7 @@ pub fn set_up(
         place: Place::Fresh,
         count: 0,
     };
-    let fit = fitting::set_up_fit(address, lengths);
+    let fit = set_up_fit(address, lengths);
     match fit {
         Fit::Unfit(answer) => Stepped {
             unit: Unit {
@@ -110,7 +75,7 @@ pub fn set_up(
             answer,
         },
         Fit::Fits => {
-            memory::fram::compute_sums(fram, sums);
+            blocks::compute_sums(fram, sums);
             Stepped {
                 unit: Unit {
                     address,
@@ -124,58 +89,51 @@ pub fn set_up(
     }
 }
 
-// One byte, received by a unit that fits what is lent.
-fn received(
+// A sound message for this unit, of `count` bytes: its command carried out, and answered. The reply's message is made in an array of
+// the unit's own, since packing makes it longer and the lent buffer must not change where nothing is sent.
+fn commanded(
     unit: Unit,
-    byte: u8,
+    count: usize,
     edac: &mut [u8],
     fram: &mut [u8],
     sums: &mut [u16],
-    diagnostics: &mut [u32],
-    message: &mut [u8],
+    diagnostics: &[u32],
+    message: &[u8],
     reply: &mut [u8],
 ) -> Stepped
-    requires { ⌜ Fitted (world (now edac) (now fram) (now sums) (now diagnostics) (now message) (now reply)) ⌝ }
-    ensures { λ r. ⌜ outcomeOf r (world (now (edac .exit)) (now (fram .exit)) (now (sums .exit)) (now (diagnostics .exit)) (now (message .exit)) (now (reply .exit)))
-        ≡ receivedOf unit byte (world (now (edac .entry)) (now (fram .entry)) (now (sums .entry)) (now (diagnostics .entry)) (now (message .entry)) (now (reply .entry))) ⌝ }
+    requires { ⌜ (length (now edac) ≡ edacSize) × (length (now fram) ≡ blockStart (length (now sums))) × (length (now diagnostics) ≡ channels)
+        × (messageSize ≤ length (now message)) × (replySize ≤ length (now reply)) × (shortestMessage ≤ count) × (count ≤ messageSize) ⌝ }
+    ensures { λ r. ⌜ outcomeOf r (world (now (edac .exit)) (now (fram .exit)) (now (sums .exit)) (now (diagnostics .entry)) (now (message .entry)) (now (reply .exit)))
+        ≡ commandedOf unit count (world (now (edac .entry)) (now (fram .entry)) (now (sums .entry)) (now (diagnostics .entry)) (now (message .entry)) (now (reply .entry))) ⌝ }
 {
-    let receiver = unit.receiver;
+    let end = count - CRC_SIZE;
+    let code = message[CONTROL] % CODES;
     let mode = unit.mode;
-    let got = line::receiver::receive(1033, receiver, byte, message);
-    let heard = got.heard;
-    let after = got.receiver;
-    let next = Unit {
-        address: unit.address,
+    let receiver = unit.receiver;
+    let mut made = [0u8; MESSAGE_SIZE];
+    let carried = command::carry_out(
+        LONGEST_DATA,
+        FIRST_OF_FRAM,
+        code,
         mode,
-        fram_len: unit.fram_len,
-        receiver: after,
-    };
-    match heard {
-        Heard::Taken => Stepped {
-            unit: next,
-            answer: Answer::Taken,
+        &message[HEAD..end],
+        edac,
+        fram,
+        sums,
+        diagnostics,
+        &mut made[HEAD..DATA_END],
+    );
+    let ended = carried.ended;
+    let after = carried.mode;
+    let answer = replying::say(ended, count, message, &mut made, reply);
+    Stepped {
+        unit: Unit {
+            address: unit.address,
+            mode: after,
+            fram_len: unit.fram_len,
+            receiver,
         },
-        Heard::Empty => Stepped {
-            unit: next,
-            answer: Answer::Taken,
-        },
-        Heard::Framing => {
-            memory::counts::count_up(diagnostics, 7);
-            Stepped {
-                unit: next,
-                answer: Answer::Framing,
-            }
-        }
-        Heard::Message(count) => running::run(
-            next,
-            count,
-            edac,
-            fram,
-            sums,
-            diagnostics,
-            message,
-            reply,
-        ),
+        answer,
     }
 }
 
@@ -201,9 +159,24 @@ pub fn step(
         message: message.len(),
         reply: reply.len(),
     };
-    let fit = fitting::step_fit(unit, lengths);
-    match fit {
-        Fit::Unfit(answer) => Stepped { unit, answer },
-        Fit::Fits => received(unit, byte, edac, fram, sums, diagnostics, message, reply),
+    let judged = judging::judge(unit, byte, lengths, message);
+    let next = judged.unit;
+    let verdict = judged.verdict;
+    match verdict {
+        Verdict::Quiet(answer) => Stepped { unit: next, answer },
+        Verdict::Dropped(answer, channel) => {
+            memory::counts::count_up(diagnostics, channel);
+            Stepped { unit: next, answer }
+        }
+        Verdict::Command(count) => commanded(
+            next,
+            count,
+            edac,
+            fram,
+            sums,
+            diagnostics,
+            message,
+            reply,
+        ),
     }
 }

@@ -1,6 +1,6 @@
 // The unit, lent its memory.
-use board::converting::answer_number;
-use board::converting::sent_by;
+use answer::number_of;
+use answer::sent_of;
 use unit::Stepped;
 use unit::Unit;
 
@@ -16,8 +16,8 @@ fn fed_by(stepped: Stepped) -> Fed {
     let answer = stepped.answer;
     Fed {
         unit,
-        number: answer_number(answer),
-        sent: sent_by(answer) as usize,
+        number: number_of(answer),
+        sent: sent_of(answer),
     }
 }
 

@@ -5,11 +5,10 @@ mod feeding;
 
 use feeding::begun;
 use feeding::feed;
-use port::arguments;
-use port::flow;
-use port::flow::left;
-use port::report;
-use port::report::count;
+use port::left;
+use words::arguments;
+use words::report;
+use words::report::count;
 ghost use Prim.Native.Nat.{_≤_};
 
 // Sets a unit up and feeds it byte by byte to the end of the input.
@@ -25,15 +24,15 @@ fn run(
     let mut buffer = [0u8; 131072];
     let mut tally = [0u64; 27];
     let mut fed = begun(address, edac, fram, sums, diagnostics, message, &reply);
-    let mut flow = flow::fresh();
+    let mut flow = port::fresh();
     let mut turns = u64::MAX;
     loop {
-        flow = flow::answered(flow, fed.sent, &reply, &mut buffer);
+        flow = port::answered(flow, fed.sent, &reply, &mut buffer);
         turns = left(turns, flow.open);
         if turns == 0 {
             break;
         }
-        let byte = flow::byte(flow);
+        let byte = port::byte(flow);
         fed = feed(
             fed.unit,
             byte,

@@ -2,7 +2,7 @@
 -- nothing.
 use mathlib.Core.Path.{sym, ap, _∙_}
 use borrow.Author.Needs.{needs}
-use Rattle.crc.specs.Joining.{answerOf}
+use Rattle.crc.specs.Joining.{joiningOf}
 use Rattle.board.specs.Face.{joinedOut}
 use Rattle.board.proofs.wheel_join.Statement.{statement}
 use Rattle.board.proofs.wheel_join.Tie as tie
@@ -18,12 +18,12 @@ enum-told c = search needs
 
 returns : tie.Need-returns
 returns c =
-    ap (λ r. joinedOut (answerOf r)) (sym (c .before .joined .given .1))
+    ap (λ r. joinedOut (joiningOf r)) (sym (c .before .joined .given .1))
     ∙ ap joinedOut (c .before .before .before .join .ensures)
 
 returns-2 : tie.Need-returns-2
 returns-2 c =
-    ap (λ r. joinedOut (answerOf r)) (sym (c .enum-told .given .1))
+    ap (λ r. joinedOut (joiningOf r)) (sym (c .enum-told .given .1))
     ∙ ap joinedOut (c .before .before .join .ensures)
 
 pub wheel-join-spec : {M : Type 1} → statement M

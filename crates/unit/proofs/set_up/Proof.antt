@@ -1,9 +1,8 @@
 -- `unit::set_up` meets its contract: refused, or all sums computed. Assumes nothing.
 use Rattle.unit.proofs.Serving.{set-up-refused, set-up-served}
-use mathlib.Core.Path.{_≡_, sym, ap, _∙_}
-use Rattle.unit.specs.World.{world, outcome, withSums, lengthsOf}
-use Rattle.unit.specs.Steps.{nobody, unless, setUpOf}
-use Rattle.unit.proofs.Serving.{a-served-set-up-fits}
+use mathlib.Core.Path.{sym, _∙_}
+use Rattle.unit.specs.World.{world, lengthsOf}
+use Rattle.judging.proofs.Serving.{a-served-set-up-fits}
 use borrow.Author.Needs.{needs}
 use Rattle.unit.proofs.set_up.Statement.{statement}
 use Rattle.unit.proofs.set_up.Tie as tie
@@ -20,7 +19,7 @@ enum-told c = search needs
 compute-sums-requires : tie.Need-compute-sums-requires
 compute-sums-requires c κs =
     let a = c .before .before .before .before .before .before .before .before .before .before .args in
-    a-served-set-up-fits (a .address) (world (a .edac .now) (a .fram .now) (a .sums .now) (a .diagnostics .now) (a .message .now) (a .reply .now))
+    a-served-set-up-fits (a .address) (lengthsOf (world (a .edac .now) (a .fram .now) (a .sums .now) (a .diagnostics .now) (a .message .now) (a .reply .now)))
     (sym (c .before .before .before .set-up-fit .ensures) ∙ c .before .enum-told .given .1) .sums-fit
 
 returns : tie.Need-returns

@@ -1,42 +1,53 @@
--- `unit::step` meets its contract: refused, or received. Assumes nothing.
-use Rattle.unit.proofs.Serving.{step-refused, step-served}
-use mathlib.Core.Path.{_≡_, sym, ap, _∙_}
+-- `unit::step` meets its contract, by the verdict. Assumes nothing.
+use native.Mathlib.Omega.{arith}
 use Rattle.unit.specs.World.{world}
-use Rattle.unit.specs.Steps.{unless, receivedOf, stepOf}
-use Rattle.unit.proofs.Serving.{a-served-step-fits}
+use Rattle.unit.proofs.Serving.{guaranteed-by, an-answer-alone, a-drop-is-counted, a-command-is-served}
 use borrow.Author.Needs.{needs}
 use Rattle.unit.proofs.step.Statement.{statement}
 use Rattle.unit.proofs.step.Tie as tie
 
-step-fit-requires : tie.Need-step-fit-requires
-step-fit-requires c κs = search needs
+judge-requires : tie.Need-judge-requires
+judge-requires c κs = search needs
 
-enum-known-fit : tie.Need-enum-known-fit
-enum-known-fit c = search needs
+enum-known-verdict : tie.Need-enum-known-verdict
+enum-known-verdict c = search needs
 
-enum-told : tie.Need-enum-told
-enum-told c = search needs
+enum-known-verdict-2 : tie.Need-enum-known-verdict-2
+enum-known-verdict-2 c = search needs
 
-received-requires : tie.Need-received-requires
-received-requires c κs =
+count-up-requires : tie.Need-count-up-requires
+count-up-requires c κs =
     let a = c .before .before .before .before .before .before .before .before .before .before .before .before .before .before .before .args in
-    a-served-step-fits (a .unit) (world (a .edac .now) (a .fram .now) (a .sums .now) (a .diagnostics .now) (a .message .now) (a .reply .now))
-    (sym (c .before .before .before .before .before .before .before .before .step-fit .ensures) ∙ c .before .before .before .before .before .before .enum-told .given .1)
+    let g = guaranteed-by (a .unit) (a .byte) (world (a .edac .now) (a .fram .now) (a .sums .now) (a .diagnostics .now) (a .message .now) (a .reply .now)) (c .before .before .before .before .before .before .before .judge .result) _ (c .before .before .before .before .before .before .before .judge .ensures) _ (c .before .before .verdict2 .given .1) in
+    omega (arith, g .0 .diagnostics-fit, g .1)
 
-returns : tie.Need-returns
-returns c =
-    let a = c .before .before .before .before .before .before .before .before .before .before .args in
-    step-refused (a .unit) (a .byte) (world (a .edac .now) (a .fram .now) (a .sums .now) (a .diagnostics .now) (a .message .now) (a .reply .now)) _
-    (sym (c .before .before .before .step-fit .ensures) ∙ c .before .fit .given .1)
+enum-known-verdict-3 : tie.Need-enum-known-verdict-3
+enum-known-verdict-3 c = search needs
+
+commanded-requires : tie.Need-commanded-requires
+commanded-requires c κs =
+    let a = c .before .before .before .before .before .before .before .before .before .before .before .before .before .before .before .before .before .before .before .before .args in
+    let g = guaranteed-by (a .unit) (a .byte) (world (a .edac .now) (a .fram .now) (a .sums .now) (a .diagnostics .now) (a .message .now) (a .reply .now)) (c .before .before .before .before .before .before .before .before .before .before .before .before .judge .result) _ (c .before .before .before .before .before .before .before .before .before .before .before .before .judge .ensures) _ (c .before .before .before .before .before .before .before .verdict3 .given .1) in
+    (g .0 .edac-fits, g .0 .sums-fit, g .0 .diagnostics-fit, omega (arith, g .0 .message-fits, c .before .before .before .before .before .before .before .before .before .before .before .before .judge .kept), g .0 .reply-fits, g .1, g .2)
 
 same-length : tie.Need-same-length
 same-length c = search needs
+
+returns : tie.Need-returns
+returns c =
+    let a = c .before .before .before .before .before .before .before .before .before .before .before .before .before .before .args in
+    an-answer-alone (a .unit) (a .byte) (world (a .edac .now) (a .fram .now) (a .sums .now) (a .diagnostics .now) (a .message .now) (a .reply .now)) (c .before .before .before .before .before .before .judge .result) _ (c .before .before .before .before .before .before .judge .ensures) _ (c .before .verdict .given .1)
 
 same-length-2 : tie.Need-same-length-2
 same-length-2 c = search needs
 
 same-length-3 : tie.Need-same-length-3
 same-length-3 c = search needs
+
+returns-2 : tie.Need-returns-2
+returns-2 c =
+    let a = c .before .before .before .before .before .before .before .before .before .before .before .before .before .before .before .before .before .before .args in
+    a-drop-is-counted (a .unit) (a .byte) (world (a .edac .now) (a .fram .now) (a .sums .now) (a .diagnostics .now) (a .message .now) (a .reply .now)) (c .before .before .before .before .before .before .before .before .before .before .judge .result) _ (c .before .before .before .before .before .before .before .before .before .before .judge .ensures) _ _ _ (c .before .before .before .before .before .verdict2 .given .1) (c .before .before .count-up .ensures)
 
 same-length-4 : tie.Need-same-length-4
 same-length-4 c = search needs
@@ -47,26 +58,39 @@ same-length-5 c = search needs
 same-length-6 : tie.Need-same-length-6
 same-length-6 c = search needs
 
-returns-2 : tie.Need-returns-2
-returns-2 c =
-    let a = c .before .before .before .before .before .before .before .before .before .before .before .before .before .before .before .before .before .before .before .before .before .before .before .before .before .before .before .before .args in
-    step-served (a .unit) (a .byte) (world (a .edac .now) (a .fram .now) (a .sums .now) (a .diagnostics .now) (a .message .now) (a .reply .now)) _
-    (sym (c .before .before .before .before .before .before .before .before .before .before .before .before .before .before .before .before .before .before .before .before .before .step-fit .ensures) ∙ c .before .before .before .before .before .before .before .before .before .before .before .before .before .before .before .before .before .before .before .enum-told .given .1)
-    (c .before .before .before .before .before .before .before .before .before .before .before .before .received .ensures)
+same-length-7 : tie.Need-same-length-7
+same-length-7 c = search needs
+
+same-length-8 : tie.Need-same-length-8
+same-length-8 c = search needs
+
+same-length-9 : tie.Need-same-length-9
+same-length-9 c = search needs
+
+returns-3 : tie.Need-returns-3
+returns-3 c =
+    let a = c .before .before .before .before .before .before .before .before .before .before .before .before .before .before .before .before .before .before .before .before .before .before .before .before .before .before .before .before .before .args in
+    a-command-is-served (a .unit) (a .byte) (world (a .edac .now) (a .fram .now) (a .sums .now) (a .diagnostics .now) (a .message .now) (a .reply .now)) (c .before .before .before .before .before .before .before .before .before .before .before .before .before .before .before .before .before .before .before .before .before .judge .result) _ (c .before .before .before .before .before .before .before .before .before .before .before .before .before .before .before .before .before .before .before .before .before .judge .ensures) _ _ (c .before .before .before .before .before .before .before .before .before .before .before .before .before .before .before .before .verdict3 .given .1) (c .before .before .before .before .before .before .before .before .commanded .ensures)
 
 pub step-spec : {M : Type 1} → statement M
 step-spec =
     tie.close
     (tie.spec
-    step-fit-requires
-    enum-known-fit
-    enum-told
-    received-requires
-    returns
+    judge-requires
+    enum-known-verdict
+    enum-known-verdict-2
+    count-up-requires
+    enum-known-verdict-3
+    commanded-requires
     same-length
+    returns
     same-length-2
     same-length-3
+    returns-2
     same-length-4
     same-length-5
     same-length-6
-    returns-2)
+    same-length-7
+    same-length-8
+    same-length-9
+    returns-3)

@@ -6,15 +6,15 @@ use Rattle.board.proofs.converting.stepped_out.Tie as tie
 unit-out-requires : tie.Need-unit-out-requires
 unit-out-requires c κs = search needs
 
-sent-by-requires : tie.Need-sent-by-requires
-sent-by-requires c κs = search needs
+sent-of-requires : tie.Need-sent-of-requires
+sent-of-requires c κs = search needs
 
-answer-number-requires : tie.Need-answer-number-requires
-answer-number-requires c κs = search needs
+number-of-requires : tie.Need-number-of-requires
+number-of-requires c κs = search needs
 
 returns : tie.Need-returns
-returns c = rw (c .before .before .unit-out .ensures, c .before .sent-by .ensures, c .answer-number .ensures)
+returns c = rw (c .before .before .unit-out .ensures, c .before .sent-of .ensures, c .number-of .ensures)
 
 pub stepped-out-spec : {M : Type 1} → statement M
 stepped-out-spec =
-    tie.close (tie.spec unit-out-requires sent-by-requires answer-number-requires returns)
+    tie.close (tie.spec unit-out-requires sent-of-requires number-of-requires returns)

@@ -1,11 +1,11 @@
 -- `command::diagnostic::are_channels` meets its contract. The invariant: what is left of the list decides the whole.
 -- Assumes nothing.
-use mathlib.Core.Path.{_≡_, refl, sym, _∙_}
+use mathlib.Core.Path.{_≡_, refl, _∙_}
 use Prim.Native.Nat.{_≤_, _-_}
 use native.Mathlib.Omega.{arith}
 use lib.ListN.{length, drop}
 use Rattle.command.specs.Diagnostic.{allChannels}
-use Rattle.command.proofs.Lists.{another-channel-stands, channels-go-on, channels-end}
+use Rattle.command.proofs.Channels.{another-channel-stands, channels-go-on, channels-end}
 use Rattle.command.proofs.diagnostic.are_channels.Statement.{statement}
 use Rattle.command.proofs.diagnostic.are_channels.Tie as tie
 

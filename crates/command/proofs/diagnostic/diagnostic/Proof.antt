@@ -1,9 +1,9 @@
 -- `command::diagnostic::diagnostic` meets its contract, by one law for each of its four ways. Assumes nothing.
 use mathlib.Core.Path.{sym, _∙_}
 use native.Mathlib.Omega.{arith}
-use Rattle.command.proofs.Writing.{is-done, is-refused}
+use Rattle.carrying.proofs.Writing.{is-done, is-refused}
 use Rattle.command.proofs.Ways.{no-channels, channels-without-room, channels-are-shown, another-channel}
-use Rattle.command.proofs.Lists.{length-of-shown-channels}
+use Rattle.command.proofs.Channels.{length-of-shown-channels}
 use borrow.Author.Needs.{needs}
 use Rattle.command.proofs.diagnostic.diagnostic.Statement.{statement}
 use Rattle.command.proofs.diagnostic.diagnostic.Tie as tie

@@ -1,14 +1,14 @@
 -- `command::diagnostic::show_channels` meets its contract. The invariant: of the whole reply so much is written, five bytes for
 -- each channel passed. Assumes nothing.
-use Rattle.command.proofs.Writing.{more-of-it, end-of-it}
-use mathlib.Core.Path.{_≡_, refl, sym, _∙_}
+use Rattle.carrying.proofs.Writing.{more-of-it, end-of-it}
+use mathlib.Core.Path.{_≡_, refl}
 use mathlib.Core.Bool.{true}
 use Prim.Native.Nat.{_≤_, _-_, _*_}
 use native.Mathlib.Omega.{arith}
 use lib.ListN.{length, drop}
 use Rattle.command.specs.Diagnostic.{allChannels, channelsShown}
-use Rattle.command.proofs.Writing.{Written, nothing-written, one-more-written, all-written}
-use Rattle.command.proofs.Lists.{a-channel-stands, shown-channels-turn, shown-channels-end}
+use Rattle.carrying.proofs.Writing.{Written, nothing-written}
+use Rattle.command.proofs.Channels.{a-channel-stands, shown-channels-turn, shown-channels-end}
 use Rattle.command.proofs.diagnostic.show_channels.Statement.{statement}
 use Rattle.command.proofs.diagnostic.show_channels.Tie as tie
 

@@ -2,8 +2,8 @@
 use Rattle.memory.specs.Bytes.{begun}
 use mathlib.Core.Path.{refl, _∙_, sym}
 use native.Mathlib.Omega.{arith}
-use Rattle.command.specs.declared.Mode.the-variants.{Bootloader, Application}
-use Rattle.command.proofs.Writing.{is-done, is-refused, one-write}
+use Rattle.carrying.specs.declared.Mode.the-variants.{Bootloader, Application}
+use Rattle.carrying.proofs.Writing.{is-done, is-refused, one-write}
 use Rattle.command.proofs.Ways.{init-resets, init-starts, init-refuses, four-to-start}
 use borrow.Author.Needs.{needs}
 use Rattle.command.proofs.init.init.Statement.{statement}

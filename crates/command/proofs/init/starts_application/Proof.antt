@@ -1,9 +1,8 @@
 -- `command::init::starts_application` meets its contract, by its tests. Assumes nothing.
-use mathlib.Core.Path.{ap, sym, _∙_}
+use mathlib.Core.Path.{ap, _∙_}
 use lib.Dec.{eqb}
 use Rattle.command.specs.Init.{applicationStart}
 use Rattle.command.proofs.Ways.{starts-not-with, starts-with-four}
-use borrow.Author.Tests.{eq-eqb, ne-eqb}
 use borrow.Author.Needs.{needs}
 use Rattle.command.proofs.init.starts_application.Statement.{statement}
 use Rattle.command.proofs.init.starts_application.Tie as tie

@@ -1,7 +1,7 @@
 -- `command::ping::ping` meets its contract: the text in one piece. Assumes nothing.
 use mathlib.Core.Path.{refl, _∙_}
 use Rattle.command.specs.Ping.{pingText, pingOf}
-use Rattle.command.proofs.Writing.{one-write, is-done}
+use Rattle.carrying.proofs.Writing.{one-write, is-done}
 use borrow.Author.Needs.{needs}
 use Rattle.command.proofs.ping.ping.Statement.{statement}
 use Rattle.command.proofs.ping.ping.Tie as tie

@@ -37,7 +37,7 @@ use denote.Triple.Entry.{Vals, onEntry}
 use denote.Triple.Spec.{Meets, tripleOf}
 use denote.Triple.Table.{entered, cited}
 use denote.Triple.Walked.{says, Stays, walkOf, Walks, ends-at, walked, walk-meets}
-use Rattle.field.specs.Reading.{stepOf}
+use Rattle.field.specs.Reading.{nextOf}
 use Rattle.field.specs.declared.reader.Reader.{Reader}
 use Rattle.field.specs.declared.reader.Step.{Step}
 use Rattle.field.proofs.Held.{ReaderAt, reader-stays, number-stays, field-val, reader-goes, number-goes, asks, numbered, answers}
@@ -67,7 +67,7 @@ module _ {M : Type 1} (𝓤 : URA M) (H : Heap 𝓤) (A : Atoms 𝓤) (W : Given
   mach = T′.lowered d
 
   abbrev found : Step
-  found = stepOf (now (d .field)) (d .at) w
+  found = nextOf (now (d .field)) (d .at) w
 
   abbrev at : Vals next.signature (κ, tt)
   at = (mach ∷ [], (vint w64 w ∷ [], tt))

@@ -1,5 +1,4 @@
 -- `field::reader::step_at` meets its contract, by its two tests. Assumes nothing.
-use native.Mathlib.Omega.{arith}
 use borrow.Author.Needs.{needs}
 use Rattle.field.proofs.Steps.{step-ends, step-lacks, step-steps}
 use Rattle.field.proofs.reader.step_at.Statement.{statement}

@@ -33,7 +33,7 @@ use denote.Triple.Entry.{Vals, onEntry}
 use denote.Triple.Spec.{Meets, tripleOf}
 use denote.Triple.Table.{entered, cited}
 use denote.Triple.Walked.{says, Stays, walkOf, Walks, ends-at, walked, walk-meets}
-use Rattle.field.specs.Reading.{stepOf}
+use Rattle.field.specs.Reading.{nextOf}
 use Rattle.field.specs.declared.reader.Reader.{Reader}
 use Rattle.field.specs.declared.reader.Step.{Step}
 use Rattle.field.proofs.Held.{ReaderAt, field-stays, number-stays, field-val, FieldOwn, field-goes, number-goes, field-twice, asks, numbered, answers}
@@ -67,7 +67,7 @@ module _ {M : Type 1} (𝓤 : URA M) (H : Heap 𝓤) (A : Atoms 𝓤) (mem : Mem
 
 module _ {M : Type 1} (𝓤 : URA M) (H : Heap 𝓤) (A : Atoms 𝓤) (W : Given 𝓤 H A) (mem : Memory → SProp 𝓤) (run : Routine → Fun 𝓤) (κ : Lft) (q : Share) (s : RefT (List ℕ)) (n w : ℕ) (ok : n < 2 ^ 64) (wide : w < 2 ^ 64) where
   abbrev found : Step
-  found = stepOf (now s) n w
+  found = nextOf (now s) n w
 
   -- the struct's type as a local of a body has it
   abbrev αᵉ : NamedLft
@@ -115,12 +115,12 @@ module _ {M : Type 1} (𝓤 : URA M) (H : Heap 𝓤) (A : Atoms 𝓤) (W : Given
         nothing ! $ numbered ! w wide $ move ! (1 ∷ 0 ∷ []) $ fjoin ! $ move ! (1 ∷ 0 ∷ []) $ use2 W (raw (Next 𝓤 H A mem run .pre (to-next r u))) (asks 𝓤 _) $
         -- [what `next` asks; what s owns; _4; …; _3; …; _2; …; _1; …; room for _0; …]
         calls-at ! fm (Next 𝓤 H A mem run) known-next (to-next r u) (and-then ! (load ! (from ! (stop !)) (look ! 2 refl)) (and-then ! (load ! (from ! (stop !)) (look ! 4 refl)) (no-more !))) (λ u′.
-        answers ! tt next.ended (κ, tt) (r, (w, tt)) S.the-row (λ t. t ≡ stepOf (now (r .field)) (r .at) w) (‵ (flft κ q) ⊛ ‵ ftrue) u′ (λ t e′ is′.
+        answers ! tt next.ended (κ, tt) (r, (w, tt)) S.the-row (λ t. t ≡ nextOf (now (r .field)) (r .at) w) (‵ (flft κ q) ⊛ ‵ ftrue) u′ (λ t e′ is′.
         -- [the result; the token; what s owns; _4; …; _3; …; _2; …; _1; …; room for _0; …]
         land ! (from ! (stop !)) (init ! 11 refl (EL.lawful S.the-type S′.the-laws 𝓤 H A W tt .typed t _ is′ .0)) $
         returns ! (look ! 11 refl) $ forget ! 3 refl $ forget ! 5 refl $ forget ! 7 refl $ forget ! 9 refl $ forget ! 11 refl $
         move ! (11 ∷ 12 ∷ []) $ free1 ! $ move ! (9 ∷ 10 ∷ []) $ free1 ! $ move ! (7 ∷ 8 ∷ []) $ free1 ! $ move ! (5 ∷ 6 ∷ []) $ free1 ! $ move ! (3 ∷ 4 ∷ []) $ free1 ! $ free0 ! $
-        by ! (exits t u′ (e′ ∙ (ap (λ (x : RefT (List ℕ)). stepOf (now x) (r .at) w) (e .0) ∙ ap (λ (x : ℕ). stepOf (now s) x w) (e .1)))))))))))))
+        by ! (exits t u′ (e′ ∙ (ap (λ (x : RefT (List ℕ)). nextOf (now x) (r .at) w) (e .0) ∙ ap (λ (x : ℕ). nextOf (now s) x w) (e .1)))))))))))))
 
 module _ {M : Type 1} (𝓤 : URA M) (H : Heap 𝓤) (A : Atoms 𝓤) (W : Given 𝓤 H A) (mem : Memory → SProp 𝓤) (run : Routine → Fun 𝓤) where
   over-walks : (C : Calls 𝓤 H) (Λ : Loops 𝓤 H) → FmC 𝓤 H (W .laws) C → Triple 𝓤 (C #new) (New 𝓤 H A mem run) → Triple 𝓤 (C #next) (Next 𝓤 H A mem run)

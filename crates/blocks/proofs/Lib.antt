@@ -1,0 +1,6 @@
+pub mod Examples
+pub mod Tests
+pub mod Refreshing
+pub mod Ranges
+pub mod Crossing
+pub mod Turns

@@ -1,0 +1,2 @@
+pub mod Fram
+pub mod Crossing

@@ -1,0 +1,5 @@
+pub mod Asking
+pub mod Writing
+pub mod Parts
+pub mod Room
+pub mod Settled

@@ -1,0 +1,40 @@
+-- What a command comes to, and what its handler leaves. Assumes nothing.
+use Prim.Native.Nat.{ℕ}
+use mathlib.Core.List.{List}
+use lib.ListN.{length}
+use Rattle.memory.specs.Bytes.{begun}
+use Rattle.blocks.specs.declared.Found.{Found}
+use Rattle.blocks.specs.declared.Found.the-variants.{At, Outside}
+use Rattle.carrying.specs.declared.Ended.{Ended}
+use Rattle.carrying.specs.declared.Ended.the-variants.{Done, Refused, Unfitted}
+
+-- The longest data field of a message, and so of a reply: what the unit passes to the commands as `room`.
+abbrev pub longestData : ℕ
+longestData = 1028
+
+-- Done, with the reply's data and M afterwards; refused (answer 3 or 4); or an access to memory not fitted (answer 10). M is what
+-- the command can change.
+pub data Ending (M : Type 0) : Type 0 where
+  done : List ℕ → M → Ending M
+  refused : Ending M
+  unfitted : Ending M
+
+-- What a handler leaves: what its command came to, the reply buffer and the memory that was lent to it.
+pub record Left (M : Type 0) : Type 0 where
+  pub ended : Ended
+  pub reply : List ℕ
+  pub memory : M
+
+abbrev pub left : {M : Type 0} → Ended → List ℕ → M → Left M
+left ended reply memory = record { ended = ended; reply = reply; memory = memory }
+
+-- The reply's data is the written first part of the reply buffer. Where a command is not done, nothing is written.
+abbrev pub leaves : {M : Type 0} → Ending M → List ℕ → M → Left M
+leaves (done bytes after) reply before = left (Done (length bytes)) (begun reply bytes) after
+leaves refused reply before = left Refused reply before
+leaves unfitted reply before = left Unfitted reply before
+
+-- A range of memory that must be fitted.
+abbrev pub atPlace : {M : Type 0} → Found → (ℕ → Ending M) → Ending M
+atPlace Outside f = unfitted
+atPlace (At at) f = f at

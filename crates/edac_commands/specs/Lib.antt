@@ -1,0 +1,3 @@
+pub mod ReadEdac
+pub mod WriteEdac
+pub mod Gather

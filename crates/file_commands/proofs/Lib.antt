@@ -1,0 +1,4 @@
+pub mod Examples
+pub mod Lists
+pub mod Room
+pub mod Ways

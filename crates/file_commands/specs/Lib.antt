@@ -1,0 +1,2 @@
+pub mod ReadFile
+pub mod WriteFile

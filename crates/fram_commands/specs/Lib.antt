@@ -1,0 +1,3 @@
+pub mod Peek
+pub mod Poke
+pub mod Crc

@@ -1,0 +1,135 @@
+// The refusals of a call, lowest number first.
+use crate::Lengths;
+use crate::Unit;
+use answer::Answer;
+use blocks::BLOCK_SIZE;
+use line::framing::FEND;
+use line::framing::FESC;
+use line::packing::MESSAGE_SIZE;
+use line::packing::REPLY_SIZE;
+use memory::counts::CHANNELS;
+use memory::edac::EDAC_SIZE;
+ghost use mathlib.Core.Path.{_≡_};
+ghost use lib.Dec.{eqb};
+ghost use Rattle.blocks.specs.Fram.{blockStart};
+ghost use Rattle.judging.specs.Fitting.{forbidden, framFits, framAsSetUp, countFit, lengthsFit, setUpFit, stepFit};
+
+// Whether a call can be served.
+pub enum Fit {
+    Fits,
+    Unfit(Answer),
+}
+
+// The address that stands for no unit. FEND and FESC are no addresses either.
+const NOBODY: u8 = 0x00;
+
+// The least and the most bytes of FRAM.
+const LEAST_FRAM: usize = 256;
+
+const MOST_FRAM: usize = 262_144;
+
+// The largest count that a receiver has.
+const LARGEST_COUNT: usize = 1034;
+
+// Whether no unit has this address.
+fn is_forbidden(address: u8) -> bool
+    ensures { λ r. ⌜ r ≡ forbidden address ⌝ }
+{
+    if address == NOBODY {
+        return true;
+    }
+    if address == FEND {
+        return true;
+    }
+    address == FESC
+}
+
+// Whether FRAM can have this length.
+fn fram_fits(size: usize) -> bool
+    ensures { λ r. ⌜ r ≡ framFits size ⌝ }
+{
+    if size < LEAST_FRAM {
+        return false;
+    }
+    if MOST_FRAM < size {
+        return false;
+    }
+    size % BLOCK_SIZE == 0
+}
+
+// Whether there is one sum for each block.
+fn sums_fit(sums: usize, fram: usize) -> bool
+    ensures { λ r. ⌜ r ≡ eqb (blockStart sums) fram ⌝ }
+{
+    if fram % BLOCK_SIZE != 0 {
+        return false;
+    }
+    fram / BLOCK_SIZE == sums
+}
+
+// 20 to 25, and then what comes after them.
+fn lengths_fit(address: u8, fits: bool, lengths: Lengths, next: Fit) -> Fit
+    ensures { λ r. ⌜ r ≡ lengthsFit address fits lengths next ⌝ }
+{
+    if is_forbidden(address) {
+        return Fit::Unfit(Answer::BadAddress);
+    }
+    if lengths.edac != EDAC_SIZE {
+        return Fit::Unfit(Answer::BadEdac);
+    }
+    if !fits {
+        return Fit::Unfit(Answer::BadFram);
+    }
+    if !sums_fit(lengths.sums, lengths.fram) {
+        return Fit::Unfit(Answer::BadSums);
+    }
+    if lengths.diagnostics != CHANNELS {
+        return Fit::Unfit(Answer::BadDiagnostics);
+    }
+    if lengths.message < MESSAGE_SIZE {
+        return Fit::Unfit(Answer::BadBuffers);
+    }
+    if lengths.reply < REPLY_SIZE {
+        return Fit::Unfit(Answer::BadBuffers);
+    }
+    next
+}
+
+pub fn set_up_fit(address: u8, lengths: Lengths) -> Fit
+    ensures { λ r. ⌜ r ≡ setUpFit address lengths ⌝ }
+{
+    lengths_fit(address, fram_fits(lengths.fram), lengths, Fit::Fits)
+}
+
+// Whether FRAM has the length that was set up.
+fn fram_as_set_up(size: usize, set_up: usize) -> bool
+    ensures { λ r. ⌜ r ≡ framAsSetUp size «set_up» ⌝ }
+{
+    if fram_fits(size) {
+        return size == set_up;
+    }
+    false
+}
+
+// 26.
+fn count_fits(count: usize) -> Fit
+    ensures { λ r. ⌜ r ≡ countFit count ⌝ }
+{
+    if count <= LARGEST_COUNT {
+        Fit::Fits
+    } else {
+        Fit::Unfit(Answer::BadCount)
+    }
+}
+
+pub fn step_fit(unit: Unit, lengths: Lengths) -> Fit
+    ensures { λ r. ⌜ r ≡ stepFit unit lengths ⌝ }
+{
+    let receiver = unit.receiver;
+    lengths_fit(
+        unit.address,
+        fram_as_set_up(lengths.fram, unit.fram_len),
+        lengths,
+        count_fits(receiver.count),
+    )
+}

@@ -1,0 +1,114 @@
+-- `unit::commanded` meets its contract: what the handler leaves is answered. Assumes nothing.
+use Prim.Native.Nat.{ℕ, _-_, _%_}
+use mathlib.Core.Path.{_≡_, refl, sym, ap, _∙_}
+use mathlib.Core.List.{List}
+use native.Mathlib.Omega.{arith}
+use borrow.Rule.Slice.PartMut.{same-len-mid}
+use lib.ListN.{getD, take, drop, replicate}
+use Rattle.memory.specs.Bytes.{stretch}
+use Rattle.blocks.specs.Fram.{kept}
+use Rattle.line.specs.Packing.{messageSize}
+use Rattle.carrying.specs.Ending.{longestData, leaves}
+use Rattle.carrying.specs.Held.{held}
+use Rattle.command.specs.Command.{commandOf}
+use Rattle.replying.specs.Replies.{said}
+use Rattle.unit.specs.World.{world, heldOf}
+use Rattle.unit.specs.Steps.{firstOfFram, commandedOf}
+use Rattle.unit.proofs.Answering.{the-command-is-answered, the-data-has-room}
+use borrow.Author.Needs.{needs}
+use Rattle.unit.proofs.commanded.Statement.{statement}
+use Rattle.unit.proofs.commanded.Tie as tie
+
+-- the unit's own array as it is made, and its part that is lent to the handler
+abbrev fresh : List ℕ
+fresh = replicate messageSize 0
+
+abbrev lent : List ℕ
+lent = take longestData (drop 3 fresh)
+
+sub-end : tie.Need-sub-end
+sub-end c = search needs
+
+shared-slice-read-code : tie.Need-shared-slice-read-code
+shared-slice-read-code c = search needs
+
+sub-carry-out : tie.Need-sub-carry-out
+sub-carry-out c = search needs
+
+part-carry-out-start : tie.Need-part-carry-out-start
+part-carry-out-start c = search needs
+
+part-carry-out-end : tie.Need-part-carry-out-end
+part-carry-out-end c = search needs
+
+sub-carry-out-2 : tie.Need-sub-carry-out-2
+sub-carry-out-2 c = search needs
+
+part-made-start : tie.Need-part-made-start
+part-made-start c = search needs
+
+part-made-end : tie.Need-part-made-end
+part-made-end c = search needs
+
+carry-out-requires : tie.Need-carry-out-requires
+carry-out-requires c κs = search needs
+
+slice-aggregate-say : tie.Need-slice-aggregate-say
+slice-aggregate-say c =
+    sym (same-len-mid 3 longestData fresh (c .before .before .before .before .before .before .before .before .carry-out .last .1 .1 .1 .1 .1 .1 .1 .1 .1 .0) (c .before .before .before .before .before .before .before .before .carry-out .kept .1 .1 .1 .1 .1 .1 .1 .1 .1 .0))
+
+say-requires : tie.Need-say-requires
+say-requires c κs =
+    let p = c .before .before .before .before .before .before .before .before .before .before .before .before .before .before .before .before .before .before .before .before .before .before .before .pre in (
+      the-data-has-room (commandOf longestData firstOfFram _ _ _ _) _ lent _ _ _ (c .before .before .before .before .before .before .before .before .before .carry-out .ensures) refl (c .before .before .before .before .before .before .before .before .before .carry-out .kept .1 .1 .1 .1 .1 .1 .1 .1 .1 .0),
+      (p .5, p .6, p .3, same-len-mid 3 longestData fresh (c .before .before .before .before .before .before .before .before .before .carry-out .last .1 .1 .1 .1 .1 .1 .1 .1 .1 .0) (c .before .before .before .before .before .before .before .before .before .carry-out .kept .1 .1 .1 .1 .1 .1 .1 .1 .1 .0), p .4),
+    )
+
+same-length : tie.Need-same-length
+same-length c = search needs
+
+same-length-2 : tie.Need-same-length-2
+same-length-2 c = search needs
+
+same-length-3 : tie.Need-same-length-3
+same-length-3 c = search needs
+
+same-length-4 : tie.Need-same-length-4
+same-length-4 c = search needs
+
+returns : tie.Need-returns
+unfolding commandedOf
+returns c =
+    let a = c .before .before .before .before .before .before .before .before .before .before .before .before .before .before .before .before .before .before .before .before .before .before .before .before .before .before .before .args in
+    let p = c .before .before .before .before .before .before .before .before .before .before .before .before .before .before .before .before .before .before .before .before .before .before .before .before .before .before .before .pre in
+    let u = a .unit in
+    let m = a .message .now in
+    let w = (world (a .edac .now) (a .fram .now) (a .sums .now) (a .diagnostics .now) m (a .reply .now)) in
+    let size : a .count - 2 - 3 ≡ a .count - 5 = omega (arith, p .5) in
+    the-command-is-answered u w (getD m 0 0) (getD m 1 0) (getD m 2 0) (stretch 3 (a .count - 5) m) fresh lent (omega arith)
+    (commandOf longestData firstOfFram (getD m 2 0 % 32) (a .diagnostics .now) (heldOf u w) (stretch 3 (a .count - 5) m))
+    (said (c .before .before .before .say .result) _) _ _ (held (c .before .before .before .before .before .before .before .before .before .before .before .before .before .carry-out .result .mode) _ (kept _ _))
+    (c .before .before .before .before .before .before .before .before .before .before .before .before .before .carry-out .ensures
+    ∙ ap (λ (n : ℕ). leaves (commandOf longestData firstOfFram (getD m 2 0 % 32) (a .diagnostics .now) (heldOf u w) (take n (drop 3 m))) lent (heldOf u w)) size)
+    (c .before .before .before .say .ensures)
+
+pub commanded-spec : {M : Type 1} → statement M
+commanded-spec =
+    tie.close
+    (tie.spec
+    sub-end
+    shared-slice-read-code
+    sub-carry-out
+    part-carry-out-start
+    part-carry-out-end
+    sub-carry-out-2
+    part-made-start
+    part-made-end
+    carry-out-requires
+    slice-aggregate-say
+    say-requires
+    same-length
+    same-length-2
+    same-length-3
+    same-length-4
+    returns)

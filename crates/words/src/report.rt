@@ -1,0 +1,108 @@
+// What is said on standard error, and the help.
+use libc::STDERR_FILENO;
+use libc::STDOUT_FILENO;
+
+fn said(words: &[u8]) {
+    io::write_all(STDERR_FILENO, words);
+}
+
+pub fn help() {
+    io::write_all(
+        STDOUT_FILENO,
+        b"usage: wheel [ADDRESS [FRAM]]\n\
+        A reaction wheel's command unit: the line's bytes on standard input, its replies on standard output, and at the end on\n\
+        standard error how often each answer came, which diagnostics moved, and what was written.\n\
+        \x20 ADDRESS  1 to 255, but not 0xC0 or 0xDB; 0x41 if there is none\n\
+        \x20 FRAM     its bytes, a multiple of 256 from 256 to 262144; 65536 if there is none\n\
+        Both are decimal, or hexadecimal after 0x. A PING and its reply:\n\
+        \x20 printf '\\xc0\\x41\\x11\\x80\\xd8\\x6d\\xc0' | ./run | od -An -tx1z\n",
+    );
+}
+
+pub fn usage() {
+    said(b"usage: wheel [ADDRESS [FRAM]]\n");
+}
+
+pub fn bad_address() {
+    said(
+        b"wheel: ADDRESS is a number from 1 to 255, but not 0xC0 or 0xDB; usage: wheel [ADDRESS [FRAM]]\n",
+    );
+}
+
+pub fn bad_fram() {
+    said(b"wheel: FRAM is a multiple of 256 from 256 to 262144; usage: wheel [ADDRESS [FRAM]]\n");
+}
+
+pub fn read_failed(error: i32) {
+    if error == libc::EAGAIN {
+        said(b"wheel: standard input would block: O_NONBLOCK is set on it; open it without\n");
+    } else {
+        os::fail(b"wheel: cannot read standard input");
+    }
+}
+
+pub fn write_failed(error: i32) {
+    if error == libc::EAGAIN {
+        said(b"wheel: standard output would block: O_NONBLOCK is set on it; open it without\n");
+    } else {
+        os::fail(b"wheel: cannot write standard output");
+    }
+}
+
+pub fn takes_nothing() {
+    said(b"wheel: standard output takes no bytes\n");
+}
+
+// A line with a name and a number.
+fn line(name: &[u8], value: u64) {
+    said(name);
+    io::print_decimal(STDERR_FILENO, value);
+    said(b"\n");
+}
+
+// A line with a name, a place and the number there, unless that is 0.
+fn numbered(name: &[u8], i: usize, value: u64) {
+    if value > 0 {
+        said(name);
+        io::print_decimal(STDERR_FILENO, i as u64);
+        line(b": ", value);
+    }
+}
+
+// How often each answer came, by its number.
+fn answers(tally: &[u64; 27]) {
+    let mut i = 0;
+    while i < 27 {
+        numbered(b"answer ", i, tally[i]);
+        i += 1;
+    }
+}
+
+fn wide(value: u32) -> u64 {
+    value as u64
+}
+
+// The diagnostics that moved: all were 0 when the wheel was set up.
+fn diagnostics(values: &[u32; 31]) {
+    let mut i = 0;
+    while i < 31 {
+        numbered(b"diagnostic ", i, wide(values[i]));
+        i += 1;
+    }
+}
+
+// What is said at the end. A reply has two FENDs, its first byte and its last.
+pub fn ended(tally: &[u64; 27], values: &[u32; 31], bytes: u64, fends: u64) {
+    answers(tally);
+    diagnostics(values);
+    line(b"replies written: ", fends / 2);
+    line(b"bytes written: ", bytes);
+}
+
+// One more answer of its number.
+pub fn count(tally: &mut [u64; 27], number: u8) {
+    let i = number as usize;
+    if i < 27 {
+        tally[i] = std::num::wrapping_add_u64(tally[i], 1);
+    }
+}
