@@ -1,4 +1,4 @@
--- What a command comes to, and what its handler leaves. Assumes nothing.
+-- What a command comes to, and what its handler leaves: 01, "Commands" and "One byte in, one answer out". Assumes nothing.
 use Prim.Native.Nat.{ℕ}
 use mathlib.Core.List.{List}
 use lib.ListN.{length}

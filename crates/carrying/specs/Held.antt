@@ -1,4 +1,4 @@
--- What commands can change, and the ending of a command that changes a part of it. Assumes nothing.
+-- What commands can change (01, "Commands"), and the ending of a command that changes a part of it. Assumes nothing.
 use Prim.Native.Nat.{ℕ}
 use mathlib.Core.List.{List}
 use Rattle.blocks.specs.Fram.{Kept}

@@ -2,6 +2,7 @@
 // stands in its first half, what waits to be written in its second.
 use libc::STDIN_FILENO;
 use libc::STDOUT_FILENO;
+use line::framing::FEND;
 use words::report;
 ghost use Prim.Native.Nat.{_<_};
 
@@ -64,7 +65,7 @@ fn fends(bytes: &[u8]) -> u64 {
     let mut count: u64 = 0;
     let mut i = 0;
     while i < bytes.len() {
-        count = std::num::wrapping_add_u64(count, (bytes[i] == 0xc0) as u64);
+        count = std::num::wrapping_add_u64(count, (bytes[i] == FEND) as u64);
         i += 1;
     }
     count
@@ -197,8 +198,10 @@ pub fn answered(flow: Flow, sent: usize, reply: &[u8; 2068], buffer: &mut Buffer
 // How many turns are left: none once input or output is at its end. A proved loop has to end, and nothing says that the input
 // does: the turns count down from a number that no run uses up.
 pub fn left(turns: u64, open: u64) -> u64
-    requires { ⌜ 0 < turns ⌝ }
-    ensures { λ r. ⌜ r < turns ⌝ }
+    ensures { λ r. ⌜ (0 < turns → r < turns) ⌝ }
 {
+    if turns == 0 {
+        return 0;
+    }
     if open > 0 { turns - 1 } else { 0 }
 }

@@ -3,8 +3,12 @@
 // diagnostics moved, and how many replies and bytes were written.
 mod feeding;
 
+use answer::number_of;
 use feeding::begun;
 use feeding::feed;
+use judging::Lengths;
+use judging::fitting::Fit;
+use judging::fitting::set_up_fit;
 use port::left;
 use words::arguments;
 use words::report;
@@ -68,6 +72,23 @@ fn serve(address: u8, size: usize)
     );
 }
 
+// The number by which the unit would refuse to be set up so, or 0.
+fn refusal(address: u8, size: usize) -> u8 {
+    let lengths = Lengths {
+        edac: 1536,
+        fram: size,
+        sums: size / 256,
+        diagnostics: 31,
+        message: 1033,
+        reply: 2068,
+    };
+    let fit = set_up_fit(address, lengths);
+    match fit {
+        Fit::Fits => 0,
+        Fit::Unfit(answer) => number_of(answer),
+    }
+}
+
 fn main() {
     if arguments::is_help() {
         report::help();
@@ -78,14 +99,10 @@ fn main() {
         return;
     }
     let address = arguments::address();
-    if address == 0 {
-        report::bad_address();
-        return;
-    }
     let size = arguments::size();
-    if size == 0 {
-        report::bad_fram();
-        return;
+    match refusal(address, size) {
+        0 => serve(address, size),
+        20 => report::bad_address(),
+        _ => report::bad_fram(),
     }
-    serve(address, size);
 }

@@ -68,27 +68,22 @@ fn argument(place: usize, otherwise: u64) -> u64 {
     number(&text[..length])
 }
 
-// The unit address that was asked for, and 0 where no unit can have it.
+// The unit address that was asked for, and 0, which no unit has, where it is no byte. Which others no unit has is for the unit to say.
 pub fn address() -> u8 {
     let number = argument(1, 0x41);
     if number > 255 {
         return 0;
     }
-    match number {
-        0xc0 | 0xdb => 0,
-        _ => number as u8,
-    }
+    number as u8
 }
 
-// The size of FRAM that was asked for, and 0 where FRAM cannot have it.
+// The size of FRAM that was asked for, and 0, which FRAM never has, where it is too large. Which others FRAM cannot have is for the
+// unit to say.
 pub fn size() -> usize
     ensures { λ r. ⌜ r ≤ 262144 ⌝ }
 {
     let number = argument(2, 65_536);
     if number > 262_144 {
-        return 0;
-    }
-    if number % 256 > 0 {
         return 0;
     }
     number as usize

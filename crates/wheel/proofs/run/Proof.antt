@@ -28,7 +28,7 @@ answered-requires : tie.Need-answered-requires Inv-loop μ-loop
 answered-requires c κs = tt
 
 left-requires : tie.Need-left-requires Inv-loop μ-loop
-left-requires c κs = c .before .before .before .loop .inv .0
+left-requires c κs = tt
 
 byte-requires : tie.Need-byte-requires Inv-loop μ-loop
 byte-requires c κs = tt
@@ -40,7 +40,7 @@ count-requires : tie.Need-count-requires Inv-loop μ-loop
 count-requires c κs = tt
 
 loop-less : tie.Need-loop-less Inv-loop μ-loop
-loop-less c = c .before .before .before .before .before .before .before .before .before .before .before .before .before .before .before .left .ensures
+loop-less c = c .before .before .before .before .before .before .before .before .before .before .before .before .before .before .before .left .ensures (c .before .before .before .before .before .before .before .before .before .before .before .before .before .before .before .before .before .before .before .loop .inv .0)
 
 loop-again : tie.Need-loop-again Inv-loop μ-loop
 loop-again c =

@@ -11,7 +11,7 @@ part-fram-start : tie.Need-part-fram-start
 part-fram-start c = omega arith
 
 part-fram-end : tie.Need-part-fram-end
-part-fram-end c = search needs
+part-fram-end c = c .before .pre
 
 sub-run-2 : tie.Need-sub-run-2
 sub-run-2 c = omega arith
