@@ -3,3 +3,5 @@ pub mod Writing
 pub mod Parts
 pub mod Room
 pub mod Settled
+pub mod Storing
+pub mod Started

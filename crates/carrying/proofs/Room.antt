@@ -1,9 +1,11 @@
 -- A reply has room: what is proved of each command in its own room, and of the table of commands above them. Assumes nothing.
-use mathlib.Core.Path.{_≡_, refl}
+use mathlib.Core.Path.{_≡_, refl, sym, _∙_}
 use mathlib.Core.Bool.{Bool, true, false, cond}
 use mathlib.Core.List.{List}
-use Prim.Native.Nat.{ℕ, _≤_}
+use Prim.Native.Nat.{ℕ, _+_, _-_, _≤_}
 use native.Mathlib.Omega.{arith}
+use borrow.Author.Tests.{le-leb, lt-leb, leb-true, leb-false}
+use lib.Dec.{leb}
 use lib.ListN.{length, take, length-take}
 use Rattle.carrying.specs.Ending.{Ending, done, refused, unfitted}
 use Rattle.carrying.specs.Held.{inside}
@@ -27,3 +29,11 @@ roomy-inside room f unfitted h = h
 -- the first bytes of a list are no more than were asked for
 pub part : (n : ℕ) (l : List ℕ) → length (take n l) ≤ n
 part n l = let e = length-take n l in omega (arith, e)
+
+-- what fits in room of which a part is taken
+pub fits-in-the-rest : (size width room : ℕ) → size ≤ room → leb (size + width) room ≡ leb width (room - size)
+fits-in-the-rest size width room taken = apart (leb width (room - size)) refl
+  where
+    apart : (b : Bool) → leb width (room - size) ≡ b → leb (size + width) room ≡ leb width (room - size)
+    apart true e = let fits = leb-true width (room - size) e in le-leb (size + width) room (omega arith) ∙ sym e
+    apart false e = let lacks = leb-false width (room - size) e in lt-leb (size + width) room (omega arith) ∙ sym e

@@ -86,19 +86,28 @@ more-of-it reply whole rest shown others buffer written place next w e stores th
 pub end-of-it : (reply whole rest buffer : List ℕ) (place : ℕ) → Written reply whole rest buffer place → rest ≡ [] → buffer ≡ begun reply whole
 end-of-it reply whole rest buffer place w e = all-written reply whole buffer place (subst (λ r. Written reply whole r buffer place) e w)
 
+-- the place is then the reply's length
+pub size-of-it : (reply whole rest buffer : List ℕ) (place : ℕ) → Written reply whole rest buffer place → rest ≡ [] → place ≡ length whole
+size-of-it reply whole rest buffer place w e = let none = ap length e in omega (arith, w .within)
+
 -- a range's head and bytes, as two stores one after the other
-pub shown-range : (field edac reply first second : List ℕ) (at place from count : ℕ) → from ≡ word16At field at → count ≡ word16At field (at + 2)
-    → at + 4 ≤ length field → place + 4 ≤ length reply → first ≡ stored reply place (stretch at (at + 4 - at) field)
-    → second ≡ stored first (place + 4) (stretch from (from + count - from) edac)
-    → second ≡ stored reply place (stretch at 4 field ++ stretch (word16At field at) (word16At field (at + 2)) edac)
-shown-range field edac reply first second at place from count ef ec fits room e1 e2 =
+pub shown-range : (field edac reply first second bytes : List ℕ) (at place from count : ℕ) → from ≡ word16At field at → count ≡ word16At field (at + 2)
+    → at + 4 ≤ length field → place + 4 ≤ length reply → bytes ≡ stretch from count edac → first ≡ stored reply place (stretch at (at + 4 - at) field)
+    → second ≡ stored first (place + 4) bytes
+    → (place + 4 + length bytes ≡ place + length (stretch at 4 field ++ stretch (word16At field at) (word16At field (at + 2)) edac))
+    × (second ≡ stored reply place (stretch at 4 field ++ stretch (word16At field at) (word16At field (at + 2)) edac))
+shown-range field edac reply first second bytes at place from count ef ec fits room eb e1 e2 =
     let four : at + 4 - at ≡ 4 = omega arith in
-    let size : from + count - from ≡ count = omega arith in
-    e2
-    ∙ ap₂ (λ held (n : ℕ). stored held (place + 4) (stretch from n edac)) (e1 ∙ ap (λ (n : ℕ). stored reply place (stretch at n field)) four) size
-    ∙ ap (λ (n : ℕ). stored (stored reply place (stretch at 4 field)) (place + n) (stretch from count edac)) (sym (length-of-a-stretch field at 4 fits))
-    ∙ a-store-goes-on reply place (stretch at 4 field) (stretch from count edac) (omega arith)
-    ∙ ap₂ (λ (a n : ℕ). stored reply place (stretch at 4 field ++ stretch a n edac)) ef ec
+    let head = length-of-a-stretch field at 4 fits in
+    let there : bytes ≡ stretch (word16At field at) (word16At field (at + 2)) edac = eb ∙ ap₂ (λ (a n : ℕ). stretch a n edac) ef ec in
+    let both = length-append (stretch at 4 field) (stretch (word16At field at) (word16At field (at + 2)) edac) in
+    let size = ap length there in (
+      omega arith,
+      e2
+          ∙ ap₂ (λ held l. stored held (place + 4) l) (e1 ∙ ap (λ (n : ℕ). stored reply place (stretch at n field)) four) there
+          ∙ ap (λ (n : ℕ). stored (stored reply place (stretch at 4 field)) (place + n) (stretch (word16At field at) (word16At field (at + 2)) edac)) (sym head)
+          ∙ a-store-goes-on reply place (stretch at 4 field) (stretch (word16At field at) (word16At field (at + 2)) edac) (omega arith),
+    )
 
 -- the address as it was sent, and then bytes of a memory
 pub address-then-bytes : (head : ℕ) (field held reply first second : List ℕ) (at count : ℕ) → head ≤ length field

@@ -1,2 +1,3 @@
 pub mod Ending
 pub mod Held
+pub mod Storing

@@ -30,7 +30,7 @@ pub fn carry_out(
     diagnostics: &[u32],
     reply: &mut [u8],
 ) -> Carried
-    requires { ⌜ (17 ≤ room) × (room ≤ length (now reply)) × (length (now field) ≤ 65536) × (length (now edac) ≡ edacSize)
+    requires { ⌜ (17 ≤ room) × (room ≤ length (now reply)) × (length (now edac) ≡ edacSize)
         × (length (now diagnostics) ≡ channels) × (length (now fram) ≡ blockStart (length (now sums))) ⌝ }
     ensures { λ r. ⌜ left (r .ended) (now (reply .exit)) (held (r .mode) (now (edac .exit)) (kept (now (fram .exit)) (now (sums .exit))))
         ≡ leaves (commandOf room first code (now (diagnostics .entry)) (held mode (now (edac .entry)) (kept (now (fram .entry)) (now (sums .entry)))) (now (field .entry)))

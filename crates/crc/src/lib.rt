@@ -95,7 +95,7 @@ fn byte_shift(sum: u16) -> u16
 }
 
 // A sum carried over the gap that `power` stands for.
-pub fn carry(sum: u16, power: u16) -> u16
+fn carry(sum: u16, power: u16) -> u16
     ensures { λ r. ⌜ r ≡ product 16 sum power ⌝ }
 {
     let mut carried = 0;
@@ -110,7 +110,7 @@ pub fn carry(sum: u16, power: u16) -> u16
 }
 
 // The power of the one-byte shift that carries a sum over n zero bytes, by halving n.
-pub fn power(n: u32) -> u16
+fn power(n: u32) -> u16
     ensures { λ r. ⌜ r ≡ powerOf n ⌝ }
 {
     if n == 0 {

@@ -1,4 +1,6 @@
 pub mod Examples
 pub mod Lists
+pub mod Parts
 pub mod Room
 pub mod Ways
+pub mod Storing

@@ -1,5 +1,5 @@
 -- The replies to READ EDAC, WRITE EDAC and GATHER have room. Assumes nothing.
-use mathlib.Core.Path.{_≡_, ap}
+use mathlib.Core.Path.{_≡_, refl, ap}
 use mathlib.Core.Bool.{true}
 use mathlib.Core.List.{List, _++_}
 use Prim.Native.Nat.{ℕ, _+_, _-_, _≤_}
@@ -19,7 +19,7 @@ use Rattle.edac_commands.specs.Gather.{ranges, rangesHold, rangesWidth, 
 use Rattle.edac_commands.proofs.Lists.{at-least-one, holding-is-whole, ranges-width-turn, ranges-shown-turn}
 
 -- a head of the data field, then bytes of EDAC memory
-head-then-bytes : (head count : ℕ) (field bytes : List ℕ) → length (take head field ++ take count bytes) ≤ head + count
+pub head-then-bytes : (head count : ℕ) (field bytes : List ℕ) → length (take head field ++ take count bytes) ≤ head + count
 head-then-bytes head count field bytes =
     let here = part head field in
     let more = part count bytes in
@@ -31,11 +31,11 @@ ranges-shown edac field hold =
     by-structures (λ _. 4) at-least-one field (λ at. length (rangesShown edac (ranges (drop at field))) ≤ rangesWidth (ranges (drop at field)))
     (λ at h. rw (list-ends (λ _. 4) field at h) (omega arith))
     (λ at h fits more.
-    let shown = ap length (ranges-shown-turn field at fits edac) in
+    let shown = ap length (ranges-shown-turn field at (at + 4) refl fits edac) in
     let both =
     length-append (stretch at 4 field ++ stretch (word16At field at) (word16At field (at + 2)) edac) (rangesShown edac (ranges (drop (at + 4) field))) in
     let here = head-then-bytes 4 (word16At field (at + 2)) (drop at field) (drop (word16At field at) edac) in
-    let width = ranges-width-turn field at fits in
+    let width = ranges-width-turn field at (at + 4) refl fits in
     omega arith)
     0 (holding-is-whole (ranges field) hold)
 

@@ -1,18 +1,22 @@
 -- One law for each way through a command's function. Assumes nothing.
-use mathlib.Core.Path.{_≡_, refl}
-use mathlib.Core.Bool.{Bool, true, false, cond}
+use mathlib.Core.Path.{_≡_, refl, sym, _∙_}
+use mathlib.Core.Bool.{Bool, true, false, cond, _&&_, false≢true}
 use mathlib.Core.List.{List, _++_}
 use Prim.Native.Nat.{ℕ, _+_, _-_, _≤_, _<_}
-use borrow.Author.Tests.{lt-ltb, le-ltb, eq-eqb, ne-eqb, leb-true}
-use lib.Dec.{ltb}
-use lib.ListN.{length, take, drop, getD}
-use Rattle.memory.specs.Bytes.{stretch, stored}
+use native.Mathlib.Omega.{arith}
+use borrow.Author.Tests.{lt-ltb, le-ltb, eq-eqb, ne-eqb, leb-true, leb-false}
+use lib.Dec.{leb, ltb}
+use lib.ListN.{length, take, drop, getD, length-drop}
+use Rattle.memory.specs.Bytes.{stretch, stored, begun}
 use Rattle.memory.specs.Edac.{edacSize, insideEdac}
-use Rattle.carrying.specs.Ending.{done, refused}
+use Rattle.carrying.specs.declared.Ended.the-variants.{Done, Refused}
+use Rattle.carrying.specs.Ending.{done, refused, left, leaves}
+use Rattle.carrying.proofs.Writing.{is-done, is-refused}
 use Rattle.field.specs.Fields.{word16At, shortCount}
 use Rattle.edac_commands.specs.ReadEdac.{readEdacRangeOf, readEdacOf}
 use Rattle.edac_commands.specs.WriteEdac.{writeEdacOf}
 use Rattle.edac_commands.specs.Gather.{ranges, rangesHold, rangesWidth, rangesShown, gatherOf}
+use Rattle.edac_commands.proofs.Lists.{taken}
 
 -- ---- READ EDAC
 
@@ -69,25 +73,50 @@ module _ (room : ℕ) (edac field : List ℕ) (some : 3 ≤ length field) (fits 
 pub inside-edac : (at count : ℕ) → insideEdac at count ≡ true → at + count ≤ edacSize
 inside-edac at count h = leb-true (at + count) edacSize h
 
--- ---- GATHER
+-- ---- GATHER, on a list from a place of the data field on
 
-pub no-ranges : (room : ℕ) (edac field : List ℕ) → length field ≡ 0 → gatherOf room edac field ≡ refused
-unfolding gatherOf
-no-ranges room edac field none = simp (eq-eqb (length field) 0 none)
+-- a list without room, or with a range that does not hold
+either-fails : {A : Type 0} (room width : ℕ) (b : Bool) (x y : A) → (b && leb width room) ≡ false → cond (ltb room width) y (cond b x y) ≡ y
+either-fails room width true x y lacks = simp (lt-ltb room width (leb-false width room lacks))
+either-fails room width false x y lacks = cond-same (ltb room width) y
+  where
+    cond-same : {A : Type 0} (b : Bool) (x : A) → cond b x x ≡ x
+    cond-same true x = refl
+    cond-same false x = refl
 
-cond-same : {A : Type 0} (b : Bool) (x : A) → cond b x x ≡ x
-cond-same true x = refl
-cond-same false x = refl
+pub both : (a b : Bool) → (a && b) ≡ true → (a ≡ true) × (b ≡ true)
+both true b e = (refl, e)
+both false b e = absurd (false≢true e)
 
-pub a-range-does-not-hold : (room : ℕ) (edac field : List ℕ) → (length field ≡ 0 → ⊥) → rangesHold (ranges field) ≡ false → gatherOf room edac field ≡ refused
-unfolding gatherOf
-a-range-does-not-hold room edac field some other = simp (ne-eqb (length field) 0 some, other) (cond-same (ltb room (rangesWidth (ranges field))) refused)
-
-module _ (room : ℕ) (edac field : List ℕ) (some : length field ≡ 0 → ⊥) (hold : rangesHold (ranges field) ≡ true) where
-  pub ranges-without-room : room < rangesWidth (ranges field) → gatherOf room edac field ≡ refused
+module _ (room : ℕ) (edac field reply : List ℕ) (at : ℕ) where
+  pub no-ranges : length field ≤ at → left Refused reply tt ≡ leaves (gatherOf room edac (drop at field)) reply tt
   unfolding gatherOf
-  ranges-without-room lacks = simp (ne-eqb (length field) 0 some, lt-ltb room (rangesWidth (ranges field)) lacks)
+  no-ranges end =
+      let rest = length-drop at field in
+      is-refused (gatherOf room edac (drop at field)) reply tt (simp (eq-eqb (length (drop at field)) 0 (omega arith)))
 
-  pub ranges-are-shown : rangesWidth (ranges field) ≤ room → gatherOf room edac field ≡ done (rangesShown edac (ranges field)) tt
-  unfolding gatherOf
-  ranges-are-shown fits = simp (ne-eqb (length field) 0 some, le-ltb room (rangesWidth (ranges field)) fits, hold)
+  module _ (answer : Bool) (judged : answer ≡ taken room (ranges (drop at field))) where
+    pub room-for-the-ranges : answer ≡ true → room ≤ length reply → rangesWidth (ranges (drop at field)) ≤ length reply
+    room-for-the-ranges held there =
+        let fits = leb-true (rangesWidth (ranges (drop at field))) room (both (rangesHold (ranges (drop at field))) _ (sym judged ∙ held) .1) in
+        omega arith
+
+    module _ (inside : at < length field) where
+      some-left : length (drop at field) ≡ 0 → ⊥
+      some-left none = let rest = length-drop at field in omega arith
+
+      pub ranges-are-shown : (n : ℕ) (buffer : List ℕ) → answer ≡ true
+          → (n ≡ length (rangesShown edac (ranges (drop at field)))) × (buffer ≡ begun reply (rangesShown edac (ranges (drop at field))))
+          → left (Done n) buffer tt ≡ leaves (gatherOf room edac (drop at field)) reply tt
+      unfolding gatherOf
+      ranges-are-shown n buffer held shown =
+          let each = both (rangesHold (ranges (drop at field))) (leb (rangesWidth (ranges (drop at field))) room) (sym judged ∙ held) in
+          is-done (gatherOf room edac (drop at field)) (rangesShown edac (ranges (drop at field))) buffer reply n tt tt
+          (simp (ne-eqb (length (drop at field)) 0 some-left, le-ltb room (rangesWidth (ranges (drop at field))) (leb-true (rangesWidth (ranges (drop at field))) room (each .1)), each .0))
+          (sym (shown .0)) (shown .1)
+
+      pub ranges-are-refused : answer ≡ false → left Refused reply tt ≡ leaves (gatherOf room edac (drop at field)) reply tt
+      unfolding gatherOf
+      ranges-are-refused not-taken =
+          is-refused (gatherOf room edac (drop at field)) reply tt
+          (simp (ne-eqb (length (drop at field)) 0 some-left) (either-fails room (rangesWidth (ranges (drop at field))) (rangesHold (ranges (drop at field))) (done (rangesShown edac (ranges (drop at field))) tt) refused (sym judged ∙ not-taken)))

@@ -1,3 +1,4 @@
 pub mod ReadEdac
 pub mod WriteEdac
 pub mod Gather
+pub mod Storing

@@ -1,3 +1,5 @@
+pub mod Ends
 pub mod Held
 pub mod Lists
-pub mod Steps
+pub mod Words
+pub mod Places

@@ -51,7 +51,7 @@ module _ (width : ℕ → ℕ) (some : (byte : ℕ) → 0 < width byte) where
       first-cut (drop at field) (simp length-drop (omega arith)) (simp (length-drop, first-left field at) (omega arith))
 
   -- in a whole list a whole structure stands at each place
-  pub one-stands : (field : List ℕ) (at : ℕ) → at < length field → isWhole (structures width (drop at field)) ≡ true
+  one-stands : (field : List ℕ) (at : ℕ) → at < length field → isWhole (structures width (drop at field)) ≡ true
       → (at + width (getD field at 0) ≤ length field) × (isWhole (structures width (drop (at + width (getD field at 0)) field)) ≡ true)
   one-stands field at h all = apart (leb (at + width (getD field at 0)) (length field)) refl
     where

@@ -2,20 +2,12 @@
 use Prim.Native.Nat.{ℕ, zero, suc, _+_, _-_}
 use mathlib.Core.Bool.{Bool, true, false, cond}
 use mathlib.Core.List.{List, [], _∷_}
-use lib.Dec.{leb, ltb}
+use lib.Dec.{ltb}
 use lib.ListN.{length, take}
-use Rattle.field.specs.declared.reader.Step.{Step}
-use Rattle.field.specs.declared.reader.Step.the-variants.{Structure, Short, End}
 
--- What stands at a place, where a structure has `width` bytes.
-unfoldable pub nextOf : List ℕ → ℕ → ℕ → Step
-nextOf field at width =
-    cond (leb (length field) at) End (cond (ltb (length field) (at + width)) Short (Structure (at + width)))
-
-abbrev pub isStructure : Step → Bool
-isStructure (Structure next) = true
-isStructure Short = false
-isStructure End = false
+-- The place behind a structure of `width` bytes that stands at a place, or the same place where no whole one stands there.
+unfoldable pub pastOf : List ℕ → ℕ → ℕ → ℕ
+pastOf field at width = cond (ltb (length field) (at + width)) at (at + width)
 
 -- A list of structures: each item with the structure's own bytes, up to the list's end, or to where it is cut inside a structure.
 pub data Listed : Type 0 where

@@ -31,7 +31,7 @@ files-shown edac (file ∷ files) =
     omega arith
 
 -- the files of a whole list are shown in as many bytes as the list has
-listed-width : (field : List ℕ) → isWhole (listed field) ≡ true → filesWidth (filesOf (listed field)) ≡ length field
+pub listed-width : (field : List ℕ) → isWhole (listed field) ≡ true → filesWidth (filesOf (listed field)) ≡ length field
 unfolding filesWidth
 listed-width field all =
     by-structures shownSize at-least-one field (λ at. filesWidth (filesOf (listed (drop at field))) ≡ length field - at)

@@ -1,46 +1,81 @@
--- One law for each way through a command's function. Assumes nothing.
-use mathlib.Core.Path.{_≡_}
-use mathlib.Core.Bool.{true, false}
+-- One law for each way through a command's function, on a list from a place of the data field on. Assumes nothing.
+use mathlib.Core.Path.{_≡_, sym, ap, _∙_}
+use mathlib.Core.Bool.{Bool, true, false}
 use mathlib.Core.List.{List}
-use Prim.Native.Nat.{ℕ, _≤_, _<_}
-use borrow.Author.Tests.{lt-ltb, le-ltb, eq-eqb, ne-eqb}
-use lib.ListN.{length}
+use Prim.Native.Nat.{ℕ, _-_, _≤_, _<_}
+use native.Mathlib.Omega.{arith}
+use borrow.Author.Tests.{lt-ltb, le-ltb, leb-true, leb-false, eq-eqb, ne-eqb}
+use lib.Dec.{leb}
+use lib.ListN.{length, drop, length-drop}
+use Rattle.memory.specs.Bytes.{begun}
 use Rattle.field.specs.Reading.{isWhole}
-use Rattle.carrying.specs.Ending.{done, refused}
+use Rattle.carrying.specs.declared.Ended.the-variants.{Done, Refused}
+use Rattle.carrying.specs.Ending.{left, leaves}
+use Rattle.carrying.proofs.Writing.{is-done, is-done-storing, is-refused}
 use Rattle.file_commands.specs.ReadFile.{filesShown, filesWidth, readFileOf}
 use Rattle.file_commands.specs.WriteFile.{listed, filesOf, filesStored, writeFileOf}
 
--- ---- READ FILE
+module _ (room : ℕ) (edac field reply : List ℕ) (at : ℕ) where
+  nothing-left : length field ≤ at → length (drop at field) ≡ 0
+  nothing-left end = let rest = length-drop at field in omega arith
 
-pub no-files : (room : ℕ) (edac field : List ℕ) → length field ≡ 0 → readFileOf room edac field ≡ refused
-unfolding readFileOf
-no-files room edac field none = simp (eq-eqb (length field) 0 none)
+  some-left : at < length field → length (drop at field) ≡ 0 → ⊥
+  some-left inside none = let rest = length-drop at field in omega arith
 
-pub files-without-room : (room : ℕ) (edac field : List ℕ) → (length field ≡ 0 → ⊥) → room < filesWidth field → readFileOf room edac field ≡ refused
-unfolding readFileOf
-files-without-room room edac field some lacks = simp (ne-eqb (length field) 0 some, lt-ltb room (filesWidth field) lacks)
+  -- ---- READ FILE
 
-pub files-are-shown : (room : ℕ) (edac field : List ℕ) → (length field ≡ 0 → ⊥) → filesWidth field ≤ room → readFileOf room edac field ≡ done (filesShown edac field) tt
-unfolding readFileOf
-files-are-shown room edac field some fits = simp (ne-eqb (length field) 0 some, le-ltb room (filesWidth field) fits)
+  pub no-files : length field ≤ at → left Refused reply tt ≡ leaves (readFileOf room edac (drop at field)) reply tt
+  unfolding readFileOf
+  no-files end = is-refused (readFileOf room edac (drop at field)) reply tt (simp (eq-eqb (length (drop at field)) 0 (nothing-left end)))
 
--- ---- WRITE FILE
+  pub room-for-the-files : (answer : Bool) → answer ≡ leb (filesWidth (drop at field)) room → answer ≡ true → room ≤ length reply → filesWidth (drop at field) ≤ length reply
+  room-for-the-files answer judged fits there = let h = leb-true (filesWidth (drop at field)) room (sym judged ∙ fits) in omega arith
 
-pub nothing-to-write : (room : ℕ) (edac field : List ℕ) → length field ≡ 0 → writeFileOf room edac field ≡ refused
-unfolding writeFileOf
-nothing-to-write room edac field none = simp (eq-eqb (length field) 0 none)
+  module _ (inside : at < length field) (answer : Bool) (judged : answer ≡ leb (filesWidth (drop at field)) room) where
+    pub files-without-room : answer ≡ false → left Refused reply tt ≡ leaves (readFileOf room edac (drop at field)) reply tt
+    unfolding readFileOf
+    files-without-room no-room =
+        is-refused (readFileOf room edac (drop at field)) reply tt
+        (simp (ne-eqb (length (drop at field)) 0 (some-left inside), lt-ltb room (filesWidth (drop at field)) (leb-false (filesWidth (drop at field)) room (sym judged ∙ no-room))))
 
-pub files-to-write-without-room : (room : ℕ) (edac field : List ℕ) → (length field ≡ 0 → ⊥) → room < length field → writeFileOf room edac field ≡ refused
-unfolding writeFileOf
-files-to-write-without-room room edac field some lacks = simp (ne-eqb (length field) 0 some, lt-ltb room (length field) lacks)
+    pub files-are-shown : (n : ℕ) (buffer : List ℕ) → answer ≡ true
+        → (n ≡ length (filesShown edac (drop at field))) × (buffer ≡ begun reply (filesShown edac (drop at field)))
+        → left (Done n) buffer tt ≡ leaves (readFileOf room edac (drop at field)) reply tt
+    unfolding readFileOf
+    files-are-shown n buffer fits shown =
+        is-done (readFileOf room edac (drop at field)) (filesShown edac (drop at field)) buffer reply n tt tt
+        (simp (ne-eqb (length (drop at field)) 0 (some-left inside), le-ltb room (filesWidth (drop at field)) (leb-true (filesWidth (drop at field)) room (sym judged ∙ fits))))
+        (sym (shown .0)) (shown .1)
 
-module _ (room : ℕ) (edac field : List ℕ) (some : length field ≡ 0 → ⊥) (fits : length field ≤ room) where
-  pub files-are-written : isWhole (listed field) ≡ true
-      → writeFileOf room edac field
-      ≡ done (filesShown (filesStored edac (listed field)) (filesOf (listed field))) (filesStored edac (listed field))
+  -- ---- WRITE FILE
+
+  pub nothing-to-write : length field ≤ at → left Refused reply edac ≡ leaves (writeFileOf room edac (drop at field)) reply edac
   unfolding writeFileOf
-  files-are-written all = simp (ne-eqb (length field) 0 some, le-ltb room (length field) fits, all)
+  nothing-to-write end = is-refused (writeFileOf room edac (drop at field)) reply edac (simp (eq-eqb (length (drop at field)) 0 (nothing-left end)))
 
-  pub a-cut-list-is-not-written : isWhole (listed field) ≡ false → writeFileOf room edac field ≡ refused
+  pub files-to-write-without-room : at < length field → room < length field - at → left Refused reply edac ≡ leaves (writeFileOf room edac (drop at field)) reply edac
   unfolding writeFileOf
-  a-cut-list-is-not-written cut = simp (ne-eqb (length field) 0 some, le-ltb room (length field) fits, cut)
+  files-to-write-without-room inside lacks =
+      let rest = length-drop at field in
+      is-refused (writeFileOf room edac (drop at field)) reply edac
+      (simp (ne-eqb (length (drop at field)) 0 (some-left inside), lt-ltb room (length (drop at field)) (omega arith)))
+
+  module _ (inside : at < length field) (fits : length field - at ≤ room) (answer : Bool) (judged : answer ≡ isWhole (listed (drop at field))) where
+    pub a-cut-list-is-not-written : answer ≡ false → left Refused reply edac ≡ leaves (writeFileOf room edac (drop at field)) reply edac
+    unfolding writeFileOf
+    a-cut-list-is-not-written cut =
+        let rest = length-drop at field in
+        is-refused (writeFileOf room edac (drop at field)) reply edac
+        (simp (ne-eqb (length (drop at field)) 0 (some-left inside), le-ltb room (length (drop at field)) (omega arith), sym judged ∙ cut))
+
+    pub files-are-written : (n : ℕ) (buffer memory : List ℕ) → answer ≡ true → memory ≡ filesStored edac (listed (drop at field))
+        → (n ≡ length (filesShown memory (filesOf (listed (drop at field))))) × (buffer ≡ begun reply (filesShown memory (filesOf (listed (drop at field)))))
+        → left (Done n) buffer memory ≡ leaves (writeFileOf room edac (drop at field)) reply edac
+    unfolding writeFileOf
+    files-are-written n buffer memory whole stores shown =
+        let rest = length-drop at field in
+        is-done-storing (writeFileOf room edac (drop at field)) _ buffer reply n memory _ edac
+        (simp (ne-eqb (length (drop at field)) 0 (some-left inside), le-ltb room (length (drop at field)) (omega arith), sym judged ∙ whole))
+        stores
+        (sym (shown .0 ∙ ap (λ l. length (filesShown l (filesOf (listed (drop at field))))) stores))
+        (shown .1 ∙ ap (λ l. begun reply (filesShown l (filesOf (listed (drop at field))))) stores)

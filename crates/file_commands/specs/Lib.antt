@@ -1,2 +1,3 @@
 pub mod ReadFile
 pub mod WriteFile
+pub mod Storing

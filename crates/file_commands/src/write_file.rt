@@ -1,14 +1,14 @@
 // WRITE FILE 0x08. The list is judged whole before anything is stored, and shown after everything is.
 use crate::read_file::width;
 use carrying::Ended;
-use field::reader::stands;
+use field::reader::new;
+use field::reader::past;
 use memory::edac::FileAddress;
 use memory::edac::show_file;
 use memory::edac::store_file;
 ghost use mathlib.Core.Path.{_≡_};
-ghost use mathlib.Core.Bool.{true};
-ghost use Prim.Native.Nat.{_≤_};
-ghost use lib.ListN.{length};
+ghost use Prim.Native.Nat.{_-_, _≤_};
+ghost use lib.ListN.{length, drop};
 ghost use Rattle.memory.specs.Bytes.{begun};
 ghost use Rattle.memory.specs.Edac.{edacSize};
 ghost use Rattle.field.specs.Reading.{isWhole};
@@ -17,43 +17,79 @@ ghost use Rattle.file_commands.specs.ReadFile.{filesShown};
 ghost use Rattle.file_commands.specs.WriteFile.{listed, filesOf, filesStored, writeFileOf};
 
 // Whether a list ends between two structures.
-fn is_whole(field: &[u8]) -> bool
-    ensures { λ r. ⌜ r ≡ isWhole (listed (now (field .entry))) ⌝ }
+fn is_whole(field: &[u8], start: usize) -> bool
+    ensures { λ r. ⌜ r ≡ isWhole (listed (drop start (now (field .entry)))) ⌝ }
 {
-    let mut at = 0;
+    let mut at = start;
     while at < field.len() {
-        let size = width(field[at]);
-        if !stands(field, at, size) {
+        let next = past(field, at, width(field[at]));
+        if next == at {
             return false;
         }
-        at += size;
+        at = next;
     }
     true
 }
 
-// Stores each file of a list in order.
-fn store_files(edac: &mut [u8], field: &[u8])
-    requires { ⌜ (length (now edac) ≡ edacSize) × (isWhole (listed (now field)) ≡ true) ⌝ }
-    ensures { λ _. ⌜ now (edac .exit) ≡ filesStored (now (edac .entry)) (listed (now (field .entry))) ⌝ }
+// Stores each file of a list in order, up to where the list is cut.
+fn store_files(edac: &mut [u8], field: &[u8], start: usize)
+    requires { ⌜ length (now edac) ≡ edacSize ⌝ }
+    ensures { λ _. ⌜ now (edac .exit) ≡ filesStored (now (edac .entry)) (listed (drop start (now (field .entry)))) ⌝ }
 {
-    let mut at = 0;
+    let mut at = start;
     while at < field.len() {
+        let file = field[at];
+        let size = width(file);
+        let next = past(field, at, size);
+        if next == at {
+            return;
+        }
+        // By its size the body is seen to be 4 or 5 bytes long; by the next place it would be copied byte by byte.
         let body = at + 1;
-        let next = at + width(field[at]);
-        store_file(edac, FileAddress(field[at]), &field[body..next]);
+        let end = at + size;
+        store_file(edac, FileAddress(file), &field[body..end]);
         at = next;
     }
 }
 
-// Shows each file of a list: a structure of the reply is as long as the list's.
-fn show_files(edac: &[u8], field: &[u8], reply: &mut [u8])
-    requires { ⌜ (length (now edac) ≡ edacSize) × (isWhole (listed (now field)) ≡ true) × (length (now field) ≤ length (now reply)) ⌝ }
-    ensures { λ _. ⌜ now (reply .exit) ≡ begun (now (reply .entry)) (filesShown (now (edac .entry)) (filesOf (listed (now (field .entry))))) ⌝ }
+// Shows each file of a list, up to where the list is cut: a structure of the reply is as long as the list's. Answers the place
+// after the last.
+fn show_files(edac: &[u8], field: &[u8], start: usize, reply: &mut [u8]) -> usize
+    requires { ⌜ (length (now edac) ≡ edacSize) × (length (now field) - start ≤ length (now reply)) ⌝ }
+    ensures { λ r. ⌜ (r ≡ length (filesShown (now (edac .entry)) (filesOf (listed (drop start (now (field .entry)))))))
+        × (now (reply .exit) ≡ begun (now (reply .entry)) (filesShown (now (edac .entry)) (filesOf (listed (drop start (now (field .entry))))))) ⌝ }
 {
-    let mut at = 0;
+    let mut place = 0;
+    let mut at = start;
     while at < field.len() {
-        at = show_file(edac, FileAddress(field[at]), reply, at);
+        let file = field[at];
+        let next = past(field, at, width(file));
+        if next == at {
+            return place;
+        }
+        place = show_file(edac, FileAddress(file), reply, place);
+        at = next;
     }
+    place
+}
+
+// The command on a list from a reader's place on.
+fn write_from(room: usize, edac: &mut [u8], field: &[u8], at: usize, reply: &mut [u8]) -> Ended
+    requires { ⌜ (room ≤ length (now reply)) × (length (now edac) ≡ edacSize) ⌝ }
+    ensures { λ r. ⌜ left r (now (reply .exit)) (now (edac .exit))
+        ≡ leaves (writeFileOf room (now (edac .entry)) (drop at (now (field .entry)))) (now (reply .entry)) (now (edac .entry)) ⌝ }
+{
+    if field.len() <= at {
+        return Ended::Refused;
+    }
+    if room < field.len() - at {
+        return Ended::Refused;
+    }
+    if is_whole(field, at) {
+        store_files(edac, field, at);
+        return Ended::Done(show_files(edac, field, at, reply));
+    }
+    Ended::Refused
 }
 
 pub fn write_file(room: usize, edac: &mut [u8], field: &[u8], reply: &mut [u8]) -> Ended
@@ -61,17 +97,6 @@ pub fn write_file(room: usize, edac: &mut [u8], field: &[u8], reply: &mut [u8]) 
     ensures { λ r. ⌜ left r (now (reply .exit)) (now (edac .exit))
         ≡ leaves (writeFileOf room (now (edac .entry)) (now (field .entry))) (now (reply .entry)) (now (edac .entry)) ⌝ }
 {
-    let size = field.len();
-    if size == 0 {
-        return Ended::Refused;
-    }
-    if room < size {
-        return Ended::Refused;
-    }
-    if is_whole(field) {
-        store_files(edac, field);
-        show_files(edac, field, reply);
-        return Ended::Done(size);
-    }
-    Ended::Refused
+    let r = new(field);
+    write_from(room, edac, r.field, r.at, reply)
 }

@@ -1,3 +1,4 @@
 pub mod Examples
 pub mod Room
 pub mod Ways
+pub mod Storing

@@ -18,16 +18,25 @@ use Rattle.fram_commands.specs.Crc.{rangeSize, crcOf}
 
 -- ---- a place in FRAM
 
-pub a-place-lies-inside : (first len address count at : ℕ) → placeOf first len address count ≡ At at → at + count ≤ len
+-- a place lies inside, as far from the first byte as its address says
+pub a-place-is-where-its-address-says : (first len address count at : ℕ) → placeOf first len address count ≡ At at
+    → (first + at ≡ address) × (at + count ≤ len)
 unfolding placeOf
-a-place-lies-inside first len address count at found = apart (leb first address) (leb (address + count) (first + len)) refl refl found
+a-place-is-where-its-address-says first len address count at found =
+    apart (leb first address) (leb (address + count) (first + len)) refl refl found
   where
-    apart : (a b : Bool) → leb first address ≡ a → leb (address + count) (first + len) ≡ b → cond (a && b) (At (address - first)) Outside ≡ At at → at + count ≤ len
+    apart : (a b : Bool) → leb first address ≡ a → leb (address + count) (first + len) ≡ b → cond (a && b) (At (address - first)) Outside ≡ At at
+        → (first + at ≡ address) × (at + count ≤ len)
     apart true true ea eb e =
         let there : address - first ≡ at = cc in
-        omega (arith, leb-true first address ea, leb-true (address + count) (first + len) eb)
+        let above = leb-true first address ea in
+        let below = leb-true (address + count) (first + len) eb in
+        (omega arith, omega arith)
     apart true false ea eb e = let z : _≡_ {A = ℕ} 0 1 = cc in absurd (omega arith)
     apart false b ea eb e = let z : _≡_ {A = ℕ} 0 1 = cc in absurd (omega arith)
+
+pub a-place-lies-inside : (first len address count at : ℕ) → placeOf first len address count ≡ At at → at + count ≤ len
+a-place-lies-inside first len address count at found = a-place-is-where-its-address-says first len address count at found .1
 
 -- ---- PEEK
 

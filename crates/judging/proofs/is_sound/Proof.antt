@@ -25,7 +25,7 @@ sum-requires : tie.Need-sum-requires
 sum-requires c κs = search needs
 
 word16-requires : tie.Need-word16-requires
-word16-requires c κs = search needs
+word16-requires c κs = tt
 
 returns : tie.Need-returns
 returns c = ap₂ eqb (c .before .sum .ensures ∙ ap (λ n. sumOf (take n (c .before .before .before .before .args .message .now))) (sub-zero (c .before .before .before .before .args .count - 2))) (c .word16 .ensures)

@@ -16,10 +16,7 @@ enum-known-verdict-2 : tie.Need-enum-known-verdict-2
 enum-known-verdict-2 c = search needs
 
 count-up-requires : tie.Need-count-up-requires
-count-up-requires c κs =
-    let a = c .before .before .before .before .before .before .before .before .before .before .before .before .before .before .before .args in
-    let g = guaranteed-by (a .unit) (a .byte) (world (a .edac .now) (a .fram .now) (a .sums .now) (a .diagnostics .now) (a .message .now) (a .reply .now)) (c .before .before .before .before .before .before .before .judge .result) _ (c .before .before .before .before .before .before .before .judge .ensures) _ (c .before .before .verdict2 .given .1) in
-    omega (arith, g .0 .diagnostics-fit, g .1)
+count-up-requires c κs = tt
 
 enum-known-verdict-3 : tie.Need-enum-known-verdict-3
 enum-known-verdict-3 c = search needs

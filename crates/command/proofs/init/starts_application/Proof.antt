@@ -20,7 +20,7 @@ returns-2 : tie.Need-returns-2
 returns-2 c = rw (c .before .enum-told .given .1) (starts-not-with (c .before .before .before .before .args .field .now) (c .if1 .taken))
 
 word32-requires : tie.Need-word32-requires
-word32-requires c κs = search needs
+word32-requires c κs = tt
 
 returns-3 : tie.Need-returns-3
 returns-3 c =

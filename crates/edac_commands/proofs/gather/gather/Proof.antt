@@ -1,53 +1,32 @@
--- `edac_commands::gather::gather` meets its contract, by one law for each of its four ways. Assumes nothing.
-use mathlib.Core.Path.{sym, _∙_}
-use native.Mathlib.Omega.{arith}
-use Rattle.carrying.proofs.Writing.{is-done, is-refused}
-use Rattle.edac_commands.proofs.Ways.{no-ranges, a-range-does-not-hold, ranges-without-room, ranges-are-shown}
-use Rattle.edac_commands.proofs.Lists.{length-of-shown-ranges}
-use borrow.Author.Needs.{needs}
-use Rattle.edac_commands.proofs.gather.gather.Statement.{statement}
-use Rattle.edac_commands.proofs.gather.gather.Tie as tie
+-- `edac_commands::gather::gather` meets its contract: a walk of its MIR, by hand, which is that of every command that reads memory (`Started.antt`). All that it knows of `new` and of `gather_from` is that each meets its contract.
+-- Assumes nothing.
+use Prim.Native.Nat.{_≤_}
+use lib.ListN.{length}
+use contract.Running.{givenOf, tables, tablesOf}
+use denote.Triple.Spec.{tripleOf}
+use denote.Triple.Table.{entered, cited}
+use Rattle.field.proofs.reader.new.Symbol as new-def
+use Rattle.field.proofs.reader.new.Symbol.{name as #new}
+use Rattle.field.proofs.reader.new.Met as new-thm
+use Rattle.carrying.proofs.Started.{Asks, New, From, meets}
+use Rattle.edac_commands.specs.Gather.{gatherOf}
+use Rattle.edac_commands.proofs.gather.gather_from.Symbol as gather-from-def
+use Rattle.edac_commands.proofs.gather.gather_from.Symbol.{name as #gather-from}
+use Rattle.edac_commands.proofs.gather.gather_from.Met as gather-from-thm
+use Rattle.edac_commands.proofs.gather.gather.Key.{name as #gather}
+use Rattle.edac_commands.proofs.gather.gather as gather
+use Rattle.edac_commands.proofs.gather.gather.Statement as stated
+use Rattle.edac_commands.proofs.gather.gather.Code as code
 
-returns : tie.Need-returns
-returns c = is-refused _ _ _ (no-ranges _ _ (c .before .before .before .before .args .field .now) (c .if1 .taken))
+-- what the command asks
+abbrev Asked : Asks
+Asked room edac reply = room ≤ length reply
 
-ranges-hold-requires : tie.Need-ranges-hold-requires
-ranges-hold-requires c κs = search needs
-
-ranges-width-requires : tie.Need-ranges-width-requires
-ranges-width-requires c κs = (c .before .before .before .before .before .before .pre .2, sym (c .before .ranges-hold .ensures) ∙ c .if2 .taken)
-
-returns-2 : tie.Need-returns-2
-returns-2 c =
-    is-refused _ _ _
-    (ranges-without-room (c .before .before .before .before .before .before .before .before .args .room) _ (c .before .before .before .before .before .before .before .before .args .field .now) (c .before .before .before .before .if1 .left) (sym (c .before .before .before .ranges-hold .ensures) ∙ c .before .before .if2 .taken) (omega arith))
-
-show-ranges-requires : tie.Need-show-ranges-requires
-show-ranges-requires c κs = (c .before .before .before .before .before .before .before .before .before .pre .1, sym (c .before .before .before .before .ranges-hold .ensures) ∙ c .before .before .before .if2 .taken, omega arith)
-
-same-length : tie.Need-same-length
-same-length c = search needs
-
-returns-3 : tie.Need-returns-3
-returns-3 c =
-    let hold = sym (c .before .before .before .before .before .before .before .ranges-hold .ensures) ∙ c .before .before .before .before .before .before .if2 .taken in
-    is-done _ _ _ _ _ tt tt
-    (ranges-are-shown (c .before .before .before .before .before .before .before .before .before .before .before .before .args .room) _ (c .before .before .before .before .before .before .before .before .before .before .before .before .args .field .now) (c .before .before .before .before .before .before .before .before .if1 .left) hold (omega arith))
-    (length-of-shown-ranges _ (c .before .before .before .before .before .before .before .before .before .before .before .before .args .field .now) (c .before .before .before .before .before .before .before .before .before .before .before .before .pre .1) hold ∙ sym (c .before .before .before .before .before .ranges-width .ensures))
-    (c .before .before .show-ranges .ensures)
-
-returns-4 : tie.Need-returns-4
-returns-4 c = is-refused _ _ _ (a-range-does-not-hold _ _ (c .before .before .before .before .before .before .args .field .now) (c .before .before .if1 .left) (sym (c .before .ranges-hold .ensures) ∙ c .if2 .left))
-
-pub gather-spec : {M : Type 1} → statement M
-gather-spec =
-    tie.close
-    (tie.spec
-    returns
-    ranges-hold-requires
-    ranges-width-requires
-    returns-2
-    show-ranges-requires
-    same-length
-    returns-3
-    returns-4)
+pub gather-spec : {M : Type 1} → stated.statement M
+unfolding code.routine tablesOf
+gather-spec 𝓤 H 𝓜 𝓖 𝓡 =
+    entered 𝓤 H (tripleOf 𝓤 H (𝓖 .A) gather.signature (gather.spec 𝓤 H (𝓖 .A) (𝓜 .mem) (𝓡 .run)))
+    (tables 𝓤 H 𝓜 𝓡 code.env .C) (tables 𝓤 H 𝓜 𝓡 code.env .Λ) #gather code.function (code.unfolded 𝓤 H 𝓜 𝓡)
+    (meets Asked gatherOf #gather-from 𝓤 H (𝓖 .A) (givenOf 𝓤 H 𝓜 𝓖) (𝓜 .mem) (𝓡 .run) (tablesOf 𝓤 H 𝓜 (tables 𝓤 H 𝓜 𝓡 code.env))
+    (cited 𝓤 H (New 𝓤 H (𝓖 .A) (𝓜 .mem) (𝓡 .run)) 𝓜 𝓡 code.env #new new-def.routine code.calls-field·reader·new (new-thm.met 𝓤 H 𝓜 𝓖 𝓡))
+    (cited 𝓤 H (From 𝓤 H (𝓖 .A) Asked gatherOf) 𝓜 𝓡 code.env #gather-from gather-from-def.routine code.calls-edac-commands·gather·gather-from (gather-from-thm.met 𝓤 H 𝓜 𝓖 𝓡)))

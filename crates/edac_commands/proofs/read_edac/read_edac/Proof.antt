@@ -21,7 +21,7 @@ returns : tie.Need-returns
 returns c = is-the-same _ _ _ _ tt (edac-read-short _ _ _ _ (c .before .before .before .before .before .before .if1 .taken) (c .before .before .before .before .short-count .ensures)) (c .before .before .read-range .ensures)
 
 word16-requires : tie.Need-word16-requires
-word16-requires c κs = search needs
+word16-requires c κs = tt
 
 read-range-requires-2 : tie.Need-read-range-requires-2
 read-range-requires-2 c κs = search needs

@@ -17,7 +17,7 @@ returns-2 : tie.Need-returns-2
 returns-2 c = is-refused _ _ _ (edac-read-without-room _ _ _ _ (c .before .if1 .left) (c .if2 .taken))
 
 word16-requires : tie.Need-word16-requires
-word16-requires c κs = search needs
+word16-requires c κs = tt
 
 holds-requires : tie.Need-holds-requires
 holds-requires c κs = search needs

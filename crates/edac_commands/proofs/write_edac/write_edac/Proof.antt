@@ -19,7 +19,7 @@ returns-2 : tie.Need-returns-2
 returns-2 c = is-refused _ _ _ (edac-write-without-room _ _ (c .before .before .before .before .before .args .field .now) (c .before .if1 .left) (c .if2 .taken))
 
 word16-requires : tie.Need-word16-requires
-word16-requires c κs = search needs
+word16-requires c κs = tt
 
 sub-holds : tie.Need-sub-holds
 sub-holds c = search needs

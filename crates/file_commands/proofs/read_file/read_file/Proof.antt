@@ -1,36 +1,34 @@
--- `file_commands::read_file::read_file` meets its contract, by one law for each of its three ways. Assumes nothing.
-use mathlib.Core.Path.{sym, _∙_}
-use native.Mathlib.Omega.{arith}
-use Rattle.carrying.proofs.Writing.{is-done, is-refused}
-use Rattle.file_commands.proofs.Ways.{no-files, files-without-room, files-are-shown}
-use Rattle.file_commands.proofs.Lists.{length-of-shown-files}
-use borrow.Author.Needs.{needs}
-use Rattle.file_commands.proofs.read_file.read_file.Statement.{statement}
-use Rattle.file_commands.proofs.read_file.read_file.Tie as tie
+-- `file_commands::read_file::read_file` meets its contract: a walk of its MIR, by hand, which is that of every command that reads memory (`Started.antt`). All that it knows of `new` and of `read_from` is that each meets its contract.
+-- Assumes nothing.
+use mathlib.Core.Path.{_≡_}
+use Prim.Native.Nat.{_≤_}
+use lib.ListN.{length}
+use contract.Running.{givenOf, tables, tablesOf}
+use denote.Triple.Spec.{tripleOf}
+use denote.Triple.Table.{entered, cited}
+use Rattle.memory.specs.Edac.{edacSize}
+use Rattle.field.proofs.reader.new.Symbol as new-def
+use Rattle.field.proofs.reader.new.Symbol.{name as #new}
+use Rattle.field.proofs.reader.new.Met as new-thm
+use Rattle.carrying.proofs.Started.{Asks, New, From, meets}
+use Rattle.file_commands.specs.ReadFile.{readFileOf}
+use Rattle.file_commands.proofs.read_file.read_from.Symbol as read-from-def
+use Rattle.file_commands.proofs.read_file.read_from.Symbol.{name as #read-from}
+use Rattle.file_commands.proofs.read_file.read_from.Met as read-from-thm
+use Rattle.file_commands.proofs.read_file.read_file.Key.{name as #read-file}
+use Rattle.file_commands.proofs.read_file.read_file as read-file
+use Rattle.file_commands.proofs.read_file.read_file.Statement as stated
+use Rattle.file_commands.proofs.read_file.read_file.Code as code
 
-returns : tie.Need-returns
-returns c = is-refused _ _ _ (no-files _ _ (c .before .before .before .before .args .field .now) (c .if1 .taken))
+-- what the command asks
+abbrev Asked : Asks
+Asked room edac reply = (room ≤ length reply) × (length edac ≡ edacSize)
 
-files-width-requires : tie.Need-files-width-requires
-files-width-requires c κs = search needs
-
-returns-2 : tie.Need-returns-2
-returns-2 c = is-refused _ _ _ (files-without-room (c .before .before .before .before .before .before .args .room) _ (c .before .before .before .before .before .before .args .field .now) (c .before .before .if1 .left) (omega arith))
-
-show-files-requires : tie.Need-show-files-requires
-show-files-requires c κs = (c .before .before .before .before .before .before .before .pre .1, omega arith)
-
-same-length : tie.Need-same-length
-same-length c = search needs
-
-returns-3 : tie.Need-returns-3
-returns-3 c =
-    is-done _ _ _ _ _ tt tt
-    (files-are-shown (c .before .before .before .before .before .before .before .before .before .before .args .room) _ (c .before .before .before .before .before .before .before .before .before .before .args .field .now) (c .before .before .before .before .before .before .if1 .left) (omega arith))
-    (length-of-shown-files (c .before .before .before .before .before .before .before .before .before .before .args .edac .now) (c .before .before .before .before .before .before .before .before .before .before .args .field .now) (c .before .before .before .before .before .before .before .before .before .before .pre .1) (λ i. c .before .before .before .before .before .before .before .before .shared-slice-known2 .given i .fits) ∙ sym (c .before .before .before .before .before .files-width .ensures))
-    (c .before .before .show-files .ensures)
-
-pub read-file-spec : {M : Type 1} → statement M
-read-file-spec =
-    tie.close
-    (tie.spec returns files-width-requires returns-2 show-files-requires same-length returns-3)
+pub read-file-spec : {M : Type 1} → stated.statement M
+unfolding code.routine tablesOf
+read-file-spec 𝓤 H 𝓜 𝓖 𝓡 =
+    entered 𝓤 H (tripleOf 𝓤 H (𝓖 .A) read-file.signature (read-file.spec 𝓤 H (𝓖 .A) (𝓜 .mem) (𝓡 .run)))
+    (tables 𝓤 H 𝓜 𝓡 code.env .C) (tables 𝓤 H 𝓜 𝓡 code.env .Λ) #read-file code.function (code.unfolded 𝓤 H 𝓜 𝓡)
+    (meets Asked readFileOf #read-from 𝓤 H (𝓖 .A) (givenOf 𝓤 H 𝓜 𝓖) (𝓜 .mem) (𝓡 .run) (tablesOf 𝓤 H 𝓜 (tables 𝓤 H 𝓜 𝓡 code.env))
+    (cited 𝓤 H (New 𝓤 H (𝓖 .A) (𝓜 .mem) (𝓡 .run)) 𝓜 𝓡 code.env #new new-def.routine code.calls-field·reader·new (new-thm.met 𝓤 H 𝓜 𝓖 𝓡))
+    (cited 𝓤 H (From 𝓤 H (𝓖 .A) Asked readFileOf) 𝓜 𝓡 code.env #read-from read-from-def.routine code.calls-file-commands·read-file·read-from (read-from-thm.met 𝓤 H 𝓜 𝓖 𝓡)))

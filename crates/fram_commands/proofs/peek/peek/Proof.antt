@@ -24,7 +24,7 @@ returns : tie.Need-returns
 returns c = is-the-same _ _ _ _ tt (peek-short _ _ _ _ _ (c .before .before .before .before .before .before .if1 .taken) (c .before .before .before .before .short-count .ensures)) (c .before .before .peek-range .ensures)
 
 word16-requires : tie.Need-word16-requires
-word16-requires c κs = search needs
+word16-requires c κs = tt
 
 cast-count-2 : tie.Need-cast-count-2
 cast-count-2 c = search needs

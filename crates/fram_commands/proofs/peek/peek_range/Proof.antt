@@ -20,7 +20,7 @@ returns-2 : tie.Need-returns-2
 returns-2 c = is-refused _ _ _ (peek-without-room _ _ _ _ _ (c .before .if1 .left) (c .if2 .taken))
 
 word32-requires : tie.Need-word32-requires
-word32-requires c κs = search needs
+word32-requires c κs = tt
 
 place-requires : tie.Need-place-requires
 place-requires c κs = search needs

@@ -19,7 +19,7 @@ returns-2 : tie.Need-returns-2
 returns-2 c = is-refused _ _ _ (poke-without-room _ _ _ (c .before .before .before .before .before .before .args .field .now) (c .before .if1 .left) (c .if2 .taken))
 
 word32-requires : tie.Need-word32-requires
-word32-requires c κs = search needs
+word32-requires c κs = tt
 
 sub-place : tie.Need-sub-place
 sub-place c = search needs

@@ -17,10 +17,10 @@ returns : tie.Need-returns
 returns c = is-refused _ _ _ (crc-of-another-length _ _ (c .before .before .before .before .before .args .field .now) (c .if1 .taken))
 
 word32-requires : tie.Need-word32-requires
-word32-requires c κs = search needs
+word32-requires c κs = tt
 
 word32-requires-2 : tie.Need-word32-requires-2
-word32-requires-2 c κs = search needs
+word32-requires-2 c κs = tt
 
 returns-2 : tie.Need-returns-2
 returns-2 c = is-refused _ _ _ (crc-backwards _ _ (c .before .before .before .before .before .before .before .before .args .field .now) (c .before .before .before .if1 .left) (omega arith))

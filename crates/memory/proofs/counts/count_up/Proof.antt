@@ -1,9 +1,12 @@
 -- `memory::counts::count_up` meets its contract, by one law for each way. Assumes nothing.
-use Rattle.memory.proofs.Tests.{one-more, no-more}
+use Rattle.memory.proofs.Tests.{no-such-count, one-more, no-more}
 use borrow.Author.Needs.{needs}
 use native.Mathlib.Omega.{arith}
 use Rattle.memory.proofs.counts.count_up.Statement.{statement}
 use Rattle.memory.proofs.counts.count_up.Tie as tie
+
+returns : tie.Need-returns
+returns c = no-such-count _ _ (c .if1 .taken)
 
 mul-count : tie.Need-mul-count
 mul-count c = search needs
@@ -23,21 +26,22 @@ slice-write-diagnostics c = search needs
 same-length : tie.Need-same-length
 same-length c = search needs
 
-returns : tie.Need-returns
-returns c = one-more _ _ (c .if1 .taken)
-
 returns-2 : tie.Need-returns-2
-returns-2 c = no-more _ _ (omega (arith, c .before .slice-known .given (c .before .before .args .channel)))
+returns-2 c = one-more _ _ (c .if2 .taken)
+
+returns-3 : tie.Need-returns-3
+returns-3 c = no-more _ _ (omega (arith, c .before .slice-known .given (c .before .before .before .args .channel)))
 
 pub count-up-spec : {M : Type 1} → statement M
 count-up-spec =
     tie.close
     (tie.spec
+    returns
     mul-count
     slice-read-count
     add-diagnostics
     mul-diagnostics
     slice-write-diagnostics
     same-length
-    returns
-    returns-2)
+    returns-2
+    returns-3)

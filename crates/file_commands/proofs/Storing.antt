@@ -1,0 +1,124 @@
+-- READ FILE after a WRITE FILE that was done: of each file the body that was written last, or what it showed before. Assumes nothing.
+use mathlib.Core.Path.{_≡_, refl, sym, ap, ap₂, _∙_}
+use mathlib.Core.Bool.{Bool, true, false, cond}
+use mathlib.Core.List.{List, [], _∷_, _++_}
+use Prim.Native.Nat.{ℕ, zero, suc, _+_, _≤_, _<_}
+use native.Mathlib.Omega.{arith}
+use borrow.Author.Tests.{le-ltb, ltb-false, ne-eqb, eqb-false}
+use lib.Dec.{eqb, ltb}
+use lib.ListN.{length, drop, getD, length-drop}
+use Rattle.memory.specs.Bytes.{stretch}
+use Rattle.memory.specs.Edac.{edacSize, bodySize, shownSize, fileShown, fileStored}
+use Rattle.memory.proofs.Stretches.{length-of-a-stretch}
+use Rattle.memory.proofs.Tests.{either-side}
+use Rattle.memory.proofs.Files.{a-stored-file-keeps-the-length, a-file-after-a-store}
+use Rattle.field.specs.Reading.{Listed, isWhole}
+use Rattle.field.proofs.Lists.{by-structures, list-ends}
+use Rattle.carrying.specs.Ending.{Ending, done, refused}
+use Rattle.carrying.specs.Storing.{withData}
+use Rattle.carrying.proofs.Storing.{either-way-alike}
+use Rattle.file_commands.specs.ReadFile.{filesShown, filesWidth, readFileOf}
+use Rattle.file_commands.specs.WriteFile.{listed, filesOf, filesStored, writeFileOf}
+use Rattle.file_commands.specs.Storing.{lastBody, filesAfter}
+use Rattle.file_commands.proofs.Lists.{at-least-one, listed-turn}
+use Rattle.file_commands.proofs.Room.{listed-width}
+
+-- what is known of a WRITE FILE that was done
+pub record FilesWritten (room : ℕ) (edac field reply after : List ℕ) : Type 0 where
+  pub some : 0 < length field
+  pub fits : length field ≤ room
+  pub whole : isWhole (listed field) ≡ true
+  pub shows : filesShown (filesStored edac (listed field)) (filesOf (listed field)) ≡ reply
+  pub stores : filesStored edac (listed field) ≡ after
+
+pub a-WRITE-FILE-that-was-done : (room : ℕ) (edac field reply after : List ℕ) → writeFileOf room edac field ≡ done reply after → FilesWritten room edac field reply after
+unfolding writeFileOf
+a-WRITE-FILE-that-was-done room edac field reply after e =
+    apart (eqb (length field) 0) (ltb room (length field)) (isWhole (listed field)) refl refl refl e
+  where
+    apart : (none long whole : Bool) → eqb (length field) 0 ≡ none → ltb room (length field) ≡ long → isWhole (listed field) ≡ whole
+        → cond none refused (cond long refused (cond whole
+        (done (filesShown (filesStored edac (listed field)) (filesOf (listed field))) (filesStored edac (listed field))) refused))
+        ≡ done reply after
+        → FilesWritten room edac field reply after
+    apart true long whole en el ew came = let z : _≡_ {A = ℕ} 0 1 = cc in absurd (omega arith)
+    apart false true whole en el ew came = let z : _≡_ {A = ℕ} 0 1 = cc in absurd (omega arith)
+    apart false false false en el ew came = let z : _≡_ {A = ℕ} 0 1 = cc in absurd (omega arith)
+    apart false false true en el ew came = record {
+      some = let n = eqb-false (length field) 0 en in either-side (length field) 0 (λ none. absurd (n (omega arith))) (λ some. some);
+      fits = ltb-false room (length field) el;
+      whole = ew;
+      shows = cc;
+      stores = cc;
+    }
+
+-- what a file shows is its address and a body
+an-address-and-a-body : (edac : List ℕ) (file : ℕ) → fileShown edac file ≡ file ∷ drop 1 (fileShown edac file)
+unfolding fileShown
+an-address-and-a-body edac zero = refl
+an-address-and-a-body edac (suc n) = refl
+
+-- a list of files, stored from a place on
+module _ (field : List ℕ) (bytes : (i : ℕ) → getD field i 0 < 256) where
+  abbrev Shows : ℕ → Type 0
+  Shows at = (edac : List ℕ) → length edac ≡ edacSize → (file : ℕ) → file < 256
+      → fileShown (filesStored edac (listed (drop at field))) file ≡ file ∷ lastBody file (listed (drop at field)) (drop 1 (fileShown edac file))
+
+  shows-at-the-end : (at : ℕ) → length field ≤ at → Shows at
+  shows-at-the-end at past edac size file small =
+      ap (λ l. fileShown (filesStored edac l) file) (list-ends shownSize field at past)
+      ∙ an-address-and-a-body edac file
+      ∙ sym (ap (λ l. file ∷ lastBody file l (drop 1 (fileShown edac file))) (list-ends shownSize field at past))
+
+  shows-one-more : (at : ℕ) → at < length field → at + shownSize (getD field at 0) ≤ length field → Shows (at + shownSize (getD field at 0)) → Shows at
+  shows-one-more at inside fits others edac size file small =
+      let named = getD field at 0 in
+      let body = stretch (at + 1) (bodySize named) field in
+      let long : length body ≡ bodySize named = length-of-a-stretch field (at + 1) (bodySize named) (omega arith) in
+      let turn = listed-turn field at inside fits in
+      let first = a-file-after-a-store edac named body file size (bytes at) small long in
+      ap (λ l. fileShown (filesStored edac l) file) turn
+      ∙ others (fileStored edac named body) (a-stored-file-keeps-the-length edac named body size (bytes at) long) file small
+      ∙ ap (λ shown. file ∷ lastBody file (listed (drop (at + shownSize named) field)) (drop 1 shown)) first
+      ∙ sym (ap (λ l. file ∷ lastBody file l (drop 1 (fileShown edac file))) turn)
+
+  pub each-file-after : isWhole (listed field) ≡ true → Shows 0
+  each-file-after whole = by-structures shownSize at-least-one field Shows shows-at-the-end shows-one-more 0 whole
+
+module _ (room : ℕ) (edac field reply after : List ℕ) (size : length edac ≡ edacSize) (bytes : (i : ℕ) → getD field i 0 < 256)
+    (came : writeFileOf room edac field ≡ done reply after) where
+  abbrev written : FilesWritten room edac field reply after
+  written = a-WRITE-FILE-that-was-done room edac field reply after came
+
+  files-alike : (files : List ℕ) → ((i : ℕ) → getD files i 0 < 256) → filesShown after files ≡ filesAfter (listed field) edac files
+  unfolding filesShown
+  files-alike [] small = refl
+  files-alike (file ∷ files) small =
+      ap₂ (λ shown others. shown ++ others)
+      (ap (λ l. fileShown l file) (sym (written .stores)) ∙ each-file-after field bytes (written .whole) edac size file (small 0))
+      (files-alike files (λ i. small (suc i)))
+
+  -- Any READ FILE comes to what it came to before, with the body written last for each file that was written.
+  pub a-READ-FILE-after-a-WRITE-FILE : (asked : ℕ) (files : List ℕ) → ((i : ℕ) → getD files i 0 < 256)
+      → readFileOf asked after files ≡ withData (λ _. filesAfter (listed field) edac files) (readFileOf asked edac files)
+  unfolding readFileOf
+  a-READ-FILE-after-a-WRITE-FILE asked files small =
+      either-way-alike (λ _. filesAfter (listed field) edac files) (eqb (length files) 0) _ _ _ _ (λ _. refl)
+      (λ _. either-way-alike (λ _. filesAfter (listed field) edac files) (ltb asked (filesWidth files)) _ _ _ _ (λ _. refl)
+      (λ _. ap (λ l. done l tt) (files-alike files small)))
+
+  none-but-none : (files : List ℕ) → 0 < filesWidth files → eqb (length files) 0 ≡ false
+  unfolding filesWidth
+  none-but-none [] some = absurd (omega arith)
+  none-but-none (file ∷ files) some = ne-eqb (suc (length files)) 0 (λ e. omega arith)
+
+  -- A READ FILE of the files that were written answers what the WRITE FILE answered.
+  pub what-was-written-is-read-back : readFileOf room after (filesOf (listed field)) ≡ done reply tt
+  unfolding readFileOf
+  what-was-written-is-read-back =
+      let width = listed-width field (written .whole) in
+      simp (
+        none-but-none (filesOf (listed field)) (omega (arith, written .some)),
+        le-ltb room (filesWidth (filesOf (listed field))) (omega (arith, written .fits)),
+      )
+      (ap (λ l. done l tt) (ap (λ l. filesShown l (filesOf (listed field))) (sym (written .stores)) ∙ written .shows))

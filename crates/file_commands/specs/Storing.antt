@@ -1,0 +1,20 @@
+-- What READ FILE shows after files were stored. Assumes nothing.
+use Prim.Native.Nat.{ℕ}
+use mathlib.Core.Bool.{cond}
+use mathlib.Core.List.{List, [], _∷_, _++_}
+use lib.Dec.{eqb}
+use lib.ListN.{getD, drop}
+use Rattle.memory.specs.Edac.{fileShown}
+use Rattle.field.specs.Reading.{Listed, ends, cut, item}
+
+-- The body that a list names last for a file, or else the one that the file had.
+abbrev pub lastBody : ℕ → Listed → List ℕ → List ℕ
+lastBody file ends body = body
+lastBody file cut body = body
+lastBody file (item named rest) body = lastBody file rest (cond (eqb (getD named 0 0) file) (drop 1 named) body)
+
+-- Each file's address and body.
+abbrev pub filesAfter : Listed → List ℕ → List ℕ → List ℕ
+filesAfter written edac [] = []
+filesAfter written edac (file ∷ files) =
+    (file ∷ lastBody file written (drop 1 (fileShown edac file))) ++ filesAfter written edac files
