@@ -18,14 +18,14 @@ use Rattle.blocks.specs.Fram.{blockStart}
 use Rattle.carrying.specs.Ending.{longestData}
 use Rattle.carrying.proofs.Room.{either-way, part}
 use Rattle.answer.specs.declared.Answer.{Answer}
-use Rattle.answer.specs.declared.Answer.the-variants.{Taken, Framing, Runt, Oversize, BadCrc, Elsewhere, BadCount}
+use Rattle.answer.specs.declared.Answer.the-variants.{Taken, Framing, Runt, Oversize, BadCrc, Elsewhere, BadAddress, BadEdac, BadFram, BadSums, BadDiagnostics, BadBuffers, BadCount}
 use Rattle.answer.specs.Answers.{numberOf, sentOf}
 use Rattle.judging.specs.declared.Unit.{Unit}
 use Rattle.judging.specs.declared.Lengths.{Lengths}
 use Rattle.judging.specs.declared.Verdict.{Verdict}
 use Rattle.judging.specs.declared.fitting.Fit.{Fit}
 use Rattle.judging.specs.declared.fitting.Fit.the-variants.{Fits, Unfit}
-use Rattle.judging.specs.Fitting.{forbidden, framAsSetUp, countFit, largestCount, lengthsFit, stepFit}
+use Rattle.judging.specs.Fitting.{forbidden, framFits, framAsSetUp, countFit, largestCount, lengthsFit, setUpFit, stepFit}
 use Rattle.judging.specs.Judging.{firstCount, soundOf, runOf, verdictOf, withReceiver, receivedOf, unless, judgeOf}
 use Rattle.unit.specs.World.{World, lengthsOf, Outcome, outcome, withMessage, withDiagnostics}
 use Rattle.unit.specs.Steps.{orderedOf, commandedOf, servedOf, stepOf}
@@ -56,7 +56,7 @@ module _ (P : Outcome → Type 0) (u : Unit) (w : World) (each : Each P u w) whe
       short : count ≤ messageSize → length (stretch 3 (count - 5) (w .message)) ≤ longestData
       short within = let h = part (count - 5) (drop 3 (w .message)) in omega arith
 
-  of-anything-heard : (h : Heard) → P (comesTo u h w)
+  pub of-anything-heard : (h : Heard) → P (comesTo u h w)
   unfolding servedOf verdictOf
   of-anything-heard heard.Taken = each .taken
   of-anything-heard heard.Empty = each .taken
@@ -79,29 +79,42 @@ of-any-call P u byte w refused served = apart (stepFit u (lengthsOf w)) refl
         let got = receiveOf messageSize (u .receiver) byte (w .message) in
         of-anything-heard P (withReceiver u (got .receiver)) (withMessage w (got .message)) (served e) (got .heard)
 
--- ---- the number of a refusal is 20 or more
+-- ---- the number of a refusal
 
+-- what holds of each refusal by a length and of what comes after holds of all
+of-any-length : (P : Fit → Type 0) (address : ℕ) (fits : Bool) (l : Lengths) (next : Fit)
+    → ((answer : Answer) → 20 ≤ numberOf answer → numberOf answer ≤ 25 → P (Unfit answer)) → P next → P (lengthsFit address fits l next)
+unfolding lengthsFit
+of-any-length P address fits l next unfit h =
+    either-way P (forbidden address) _ _ (λ _. unfit BadAddress (omega arith) (omega arith))
+    (λ _. either-way P (eqb (l .edac) edacSize) _ _
+    (λ _. either-way P fits _ _
+    (λ _. either-way P (eqb (blockStart (l .sums)) (l .fram)) _ _
+    (λ _. either-way P (eqb (l .diagnostics) channels) _ _
+    (λ _. either-way P (ltb (l .message) messageSize || ltb (l .reply) replySize) _ _ (λ _. unfit BadBuffers (omega arith) (omega arith)) (λ _. h))
+    (λ _. unfit BadDiagnostics (omega arith) (omega arith)))
+    (λ _. unfit BadSums (omega arith) (omega arith)))
+    (λ _. unfit BadFram (omega arith) (omega arith)))
+    (λ _. unfit BadEdac (omega arith) (omega arith)))
+
+-- of a byte 20 or more
 abbrev High : Fit → Type 0
 High Fits = 0 ≤ 0
 High (Unfit answer) = 20 ≤ numberOf answer
-
-high-lengths : (address : ℕ) (fits : Bool) (l : Lengths) (next : Fit) → High next → High (lengthsFit address fits l next)
-unfolding lengthsFit
-high-lengths address fits l next h =
-    either-way High (forbidden address) _ _ (λ _. omega arith)
-    (λ _. either-way High (eqb (l .edac) edacSize) _ _
-    (λ _. either-way High fits _ _
-    (λ _. either-way High (eqb (blockStart (l .sums)) (l .fram)) _ _
-    (λ _. either-way High (eqb (l .diagnostics) channels) _ _
-    (λ _. either-way High (ltb (l .message) messageSize || ltb (l .reply) replySize) _ _ (λ _. omega arith) (λ _. h))
-    (λ _. omega arith))
-    (λ _. omega arith))
-    (λ _. omega arith))
-    (λ _. omega arith))
 
 pub a-refused-step-has-its-number : (u : Unit) (l : Lengths) (answer : Answer) → stepFit u l ≡ Unfit answer → 20 ≤ numberOf answer
 unfolding stepFit
 a-refused-step-has-its-number u l answer e =
     subst High e
-    (high-lengths (u .address) (framAsSetUp (l .fram) (u .«fram_len»)) l (countFit (u .receiver .count))
+    (of-any-length High (u .address) (framAsSetUp (l .fram) (u .«fram_len»)) l (countFit (u .receiver .count)) (λ answer low high. low)
     (either-way High (leb (u .receiver .count) largestCount) Fits (Unfit BadCount) (λ _. omega arith) (λ _. omega arith)))
+
+-- of set-up 20 to 25
+abbrev Between : Fit → Type 0
+Between Fits = (0 ≤ 0) × (0 ≤ 0)
+Between (Unfit answer) = (20 ≤ numberOf answer) × (numberOf answer ≤ 25)
+
+pub a-refused-set-up-has-its-number : (address : ℕ) (l : Lengths) (answer : Answer) → setUpFit address l ≡ Unfit answer → (20 ≤ numberOf answer) × (numberOf answer ≤ 25)
+unfolding setUpFit
+a-refused-set-up-has-its-number address l answer e =
+    subst Between e (of-any-length Between address (framFits (l .fram)) l Fits (λ answer low high. (low, high)) (omega arith, omega arith))

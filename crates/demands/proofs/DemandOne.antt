@@ -23,14 +23,15 @@ use Rattle.answer.specs.declared.Answer.{Answer}
 use Rattle.answer.specs.declared.Answer.the-variants.{Taken, Acked, Done, Nacked, Refused, Framing, Runt, Oversize, BadCrc, Elsewhere, Unfitted, BadAddress, BadEdac, BadFram, BadSums, BadDiagnostics, BadBuffers, BadCount}
 use Rattle.answer.specs.Answers.{numberOf, sentOf}
 use Rattle.judging.specs.declared.Unit.{Unit}
+use Rattle.judging.specs.declared.fitting.Fit.{Fit}
 use Rattle.judging.specs.declared.fitting.Fit.the-variants.{Fits, Unfit}
 use Rattle.judging.specs.Fitting.{setUpFit, lengthsFit, stepFit}
 use Rattle.judging.specs.Judging.{firstCount, withReceiver, judgeOf}
 use Rattle.replying.specs.Replies.{polls, codeOf, replyMessage, Said, saying, saidOf}
 use Rattle.unit.specs.World.{World, lengthsOf, Outcome, outcome, withMode, withMessage, withDiagnostics, withReply, heldOf, withHeld}
 use Rattle.unit.specs.Steps.{nobody, setUpAs, setUpOf, firstOfFram, answered, servedOf, stepOf}
-use Rattle.demands.specs.Leaving.{countsAfter, Leaves}
-use Rattle.demands.proofs.Cases.{Each, of-any-call, a-refused-step-has-its-number}
+use Rattle.demands.specs.Leaving.{countsAfter, Leaves, SetUpLeaves}
+use Rattle.demands.proofs.Cases.{Each, of-any-call, a-refused-step-has-its-number, a-refused-set-up-has-its-number}
 
 -- nothing written is the written part of nothing
 nothing-sent : (reply : List ℕ) (n : ℕ) → n ≡ 0 → reply ≡ begun reply (take n reply)
@@ -52,7 +53,7 @@ module _ (u : Unit) (w : World) (receiver : Receiver) (message : List ℕ) where
   heard = withMessage w message
 
   -- an answer that counts and sends nothing
-  quiet : (answer : Answer) → numberOf answer < 20 → countsAfter answer (w .diagnostics) ≡ w .diagnostics → sentOf answer ≡ 0 → Leaves u w (outcome next answer heard)
+  quiet : (answer : Answer) → numberOf answer < 20 → countsAfter (numberOf answer) (w .diagnostics) ≡ w .diagnostics → sentOf answer ≡ 0 → Leaves u w (outcome next answer heard)
   quiet answer low still silent =
       record {
         nothing-by-a-refused-call = λ high. absurd (omega arith);
@@ -63,7 +64,7 @@ module _ (u : Unit) (w : World) (receiver : Receiver) (message : List ℕ) where
         fram-length = refl;
       }
 
-  counted : (answer : Answer) (which : ℕ) → numberOf answer ≡ 5 + which → which < 4 → countsAfter answer (w .diagnostics) ≡ countedUp (w .diagnostics) (firstCount + which)
+  counted : (answer : Answer) (which : ℕ) → numberOf answer ≡ 5 + which → which < 4 → countsAfter (numberOf answer) (w .diagnostics) ≡ countedUp (w .diagnostics) (firstCount + which)
   counted answer which number four =
       let low : leb 5 (numberOf answer) ≡ true = le-leb 5 (numberOf answer) (omega arith) in
       let high : leb (numberOf answer) 8 ≡ true = le-leb (numberOf answer) 8 (omega arith) in
@@ -129,7 +130,7 @@ module _ (u : Unit) (w : World) (receiver : Receiver) (message : List ℕ) where
 -- ---- a call that is refused
 
 -- an answer of 20 or more counts and sends nothing
-high-counts : (answer : Answer) (diagnostics : List ℕ) → 20 ≤ numberOf answer → countsAfter answer diagnostics ≡ diagnostics
+high-counts : (answer : Answer) (diagnostics : List ℕ) → 20 ≤ numberOf answer → countsAfter (numberOf answer) diagnostics ≡ diagnostics
 high-counts answer diagnostics high = simp (le-leb 5 (numberOf answer) (omega arith), lt-leb (numberOf answer) 8 (omega arith))
 
 pub high-sends : (answer : Answer) → 20 ≤ numberOf answer → sentOf answer ≡ 0
@@ -175,6 +176,17 @@ what-the-message-buffer-holds u byte w fits =
     of-any-call (λ (o : Outcome). o .world .message ≡ receiveOf messageSize (u .receiver) byte (w .message) .message) u byte w
     (λ answer e. let z : Fits ≡ Unfit answer = sym fits ∙ e in let o : _≡_ {A = ℕ} 0 1 = cc in absurd (omega arith))
     (λ _. record { taken = refl; elsewhere = refl; dropped = λ answer which number four silent. refl; commanded = λ destination source control field short. refl })
+
+-- For any address and lent buffers of any length.
+pub what-set-up-leaves : (address : ℕ) (w : World) → SetUpLeaves address w (setUpOf address w)
+unfolding setUpOf
+what-set-up-leaves address w = apart (setUpFit address (lengthsOf w)) refl
+  where
+    apart : (f : Fit) → setUpFit address (lengthsOf w) ≡ f → SetUpLeaves address w (setUpAs f address w)
+    apart Fits e = record { set-up = λ _. (refl, refl); refused = λ other. absurd (other refl) }
+    apart (Unfit answer) e =
+        let number = a-refused-set-up-has-its-number address (lengthsOf w) answer e in
+        record { set-up = λ none. absurd (omega arith); refused = λ _. (number .0, number .1, refl, refl) }
 
 -- A refused set-up hands back a record with which every later call is refused.
 pub a-refused-set-up-is-never-served : (address : ℕ) (w : World) (answer : Answer) → setUpFit address (lengthsOf w) ≡ Unfit answer → (byte : ℕ) (v : World)

@@ -13,6 +13,7 @@ use Rattle.line.proofs.Bounds.{the-count-never-passes-one-above-the-largest}
 use Rattle.line.specs.Framing.{fend}
 use Rattle.line.specs.Receiver.{opened, receiveOf}
 use Rattle.line.specs.Packing.{bodyOf, packedOf, messageSize, replySize}
+use Rattle.field.proofs.Words.{four-bytes}
 use Rattle.field.specs.Fields.{word32At, bytes16, bytes32}
 use Rattle.memory.specs.Bytes.{stretch}
 use Rattle.memory.specs.Counts.{channels}
@@ -53,9 +54,10 @@ use Rattle.unit.specs.World.{World, lengthsOf, Outcome, outcome, withMessage, h
 use Rattle.unit.specs.Steps.{setUpOf, firstOfFram, answered, orderedOf, stepOf}
 use Rattle.unit.proofs.Serving.{set-up-served}
 use Rattle.demands.specs.Calls.{Call, lentTo, Fed, fedOf, bytesOf, delivering, Suits, AllSuit, Idle, Bytes, Lending, its-memory, another, Own, own, withMemory, ownOf, calledOf, Right, Inside}
+use Rattle.demands.specs.Orders.{Sends, withItsMessage, leftBy, sentBy, cameTo}
 use Rattle.demands.proofs.Cases.{of-any-call}
 use Rattle.demands.proofs.DemandOne.{what-every-answer-leaves}
-use Rattle.demands.proofs.DemandTwo.{a-packed-command-is-carried-out, what-is-sent-is-the-packed-answer}
+use Rattle.demands.proofs.Orders.{a-sent-command-is-carried-out, a-command-that-is-done-sends-its-data}
 
 -- what is kept from call to call: right sums, and the memory's length
 abbrev Good : ℕ → Kept → Type 0
@@ -218,16 +220,6 @@ after-any-calls-the-sums-are-right address w e calls =
 -- ---- the CRC that is answered
 
 -- an address as it is sent reads as itself
-four-bytes : (n : ℕ) → n < 4294967296 → n % 256 + 256 * (n / 256 % 256) + 65536 * (n / 65536 % 256 + 256 * (n / 16777216 % 256)) ≡ n
-four-bytes n h =
-    let second : n / 256 / 256 ≡ n / 65536 = omega arith in
-    let third : n / 65536 / 256 ≡ n / 16777216 = omega arith in
-    let top : n / 16777216 % 256 ≡ n / 16777216 = omega arith in
-    let low : n % 256 + 256 * (n / 256) ≡ n = omega arith in
-    let middle : n / 256 % 256 + 256 * (n / 256 / 256) ≡ n / 256 = omega arith in
-    let high : n / 65536 % 256 + 256 * (n / 65536 / 256) ≡ n / 65536 = omega arith in
-    omega arith
-
 reads-back : (n : ℕ) (rest : List ℕ) → n < 4294967296 → word32At (bytes32 n ++ rest) 0 ≡ n
 reads-back n rest h = four-bytes n h
 
@@ -251,9 +243,6 @@ no-longer size fits =
     (λ long.
     let no : framFits size ≡ false = ap (λ t. leb 256 size && t && eqb (size % 256) 0) (lt-leb size 262144 long) ∙ both-no (leb 256 size) (eqb (size % 256) 0) in
     absurd (false≢true (sym no ∙ fits)))
-
-done-is-not-unfitted : {M : Type 0} {reply : List ℕ} {after : M} → done reply after ≡ unfitted → ⊥
-done-is-not-unfitted e = let z : _≡_ {A = ℕ} 0 1 = cc in absurd (omega arith)
 
 both-yes : {a b : Bool} → a ≡ true → b ≡ true → (a && b) ≡ true
 both-yes {a} {b} p q = ap₂ _&&_ p q
@@ -290,24 +279,6 @@ module _ (blocks : ℕ) (memory : Kept) (right : Right memory) (whole : length (
       in-either-mode longestData firstOfFram 0x06 diagnostics (held mode edac memory) (bytes32 first ++ bytes32 last) 0x06
       (reading (held mode edac memory) (crcOf firstOfFram memory (bytes32 first ++ bytes32 last))) refl refl
       ∙ ap (reading (held mode edac memory)) a-fresh-answer
-
-byte-below : (n : ℕ) → n % 256 < 256
-byte-below n = omega arith
-
-eight-bytes : (first last : ℕ) → Bytes (bytes32 first ++ bytes32 last)
-eight-bytes first last = (
-  byte-below first,
-  (
-    byte-below (first / 256),
-    (
-      byte-below (first / 65536),
-      (
-        byte-below (first / 16777216),
-        (byte-below last, (byte-below (last / 256), (byte-below (last / 65536), (byte-below (last / 16777216), tt)))),
-      ),
-    ),
-  ),
-)
 
 -- ---- after any calls on a unit that was set up
 
@@ -356,51 +327,35 @@ module _ (address : ℕ) (w : World) (e : setUpFit address (lengthsOf w) ≡ Fit
         le-ltb (length (c .lent .reply)) replySize room,
       )
 
-  -- The same on the line. Let this unit, with nothing open, be sent a CRC command for its own address, from any source, for a range
-  -- inside FRAM, by calls that are served; each may lend another thing, but the message buffer is the same throughout and the last
-  -- call lends the unit's own FRAM and sums. All bytes are taken but the last, which does the command and answers, with the range as it
-  -- was asked, the CRC of the bytes now stored there.
+  -- The same on the line. Let this unit be sent a CRC command, from any source, for a range inside FRAM, by calls of which each may lend
+  -- another thing, but the last lends the unit's own FRAM and sums. All bytes are taken but the last, which does the command and
+  -- answers, with the range as it was asked, the CRC of the bytes now stored there.
   module _ (sending : List Call) (c : Call) (message : List ℕ) (source control first last : ℕ) (range : Inside (now .memory) first last)
-      (suiting : AllSuit (now .unit .address) (now .unit .«fram_len») (length message) sending) (suits : Suits (now .unit .address) (now .unit .«fram_len») (length message) c)
-      (its-fram : c .lent .fram ≡ now .memory .fram) (its-sums : c .lent .sums ≡ now .memory .sums) (idle : Idle (now .unit .receiver))
-      (head : Bytes (now .unit .address ∷ source ∷ control ∷ [])) (code : codeOf control ≡ 0x06) where
+      (sends : Sends (now .unit) message source control (bytes32 first ++ bytes32 last) sending c)
+      (its-fram : c .lent .fram ≡ now .memory .fram) (its-sums : c .lent .sums ≡ now .memory .sums) (code : codeOf control ≡ 0x06) where
     abbrev asked : List ℕ
     asked = bytes32 first ++ bytes32 last
 
     abbrev answer : List ℕ
     answer = asked ++ bytes16 (sumOf (stretch (first - firstOfFram) (last - first + 1) (now .memory .fram)))
 
-    abbrev sent : List ℕ
-    sent = sealed (now .unit .address ∷ source ∷ control ∷ asked)
-
-    abbrev after : World
-    after = lentTo (sent ++ drop (length sent) message) c
-
-    came : commandOf longestData firstOfFram (codeOf control) (c .lent .diagnostics) (heldOf (withReceiver (now .unit) opened) after) asked
-        ≡ done answer (held (now .unit .mode) (c .lent .edac) (now .memory))
+    came : cameTo (now .unit) c control asked ≡ done answer (held (now .unit .mode) (c .lent .edac) (now .memory))
     came =
         ap₂ (λ (f s : List ℕ). commandOf longestData firstOfFram (codeOf control) (c .lent .diagnostics) (held (now .unit .mode) (c .lent .edac) (kept f s)) asked) its-fram its-sums
         ∙ ap (λ (n : ℕ). commandOf longestData firstOfFram n (c .lent .diagnostics) (held (now .unit .mode) (c .lent .edac) (now .memory)) asked) code
         ∙ the-CRC-answered-is-fresh (c .lent .edac) (c .lent .diagnostics) first last range
 
-    pub the-CRC-on-the-line-is-fresh : bytesOf sending ≡ fend ∷ bodyOf sent → c .byte ≡ fend
-        → fedOf (now .unit) message sending c
+    pub the-CRC-on-the-line-is-fresh : fedOf (now .unit) message sending c
         ≡ delivering (length sending)
         (answered (withReceiver (now .unit) opened) (now .unit .address) source control asked
-        (done answer (held (now .unit .mode) (c .lent .edac) (now .memory))) after)
-    the-CRC-on-the-line-is-fresh is ends =
-        a-packed-command-is-carried-out (now .unit) message sending c (goes .low) suiting suits ends (now .unit .address) source control asked
-        (head .0, (head .1 .0, (head .1 .1 .0, eight-bytes first last))) (omega arith) idle is
-        ∙ ap (delivering (length sending))
-        (ap (λ t. cond t (orderedOf (withReceiver (now .unit) opened) (now .unit .address) source control asked after)
-        (outcome (withReceiver (now .unit) opened) Elsewhere after)) (eq-eqb (now .unit .address) (now .unit .address) refl)
-        ∙ ap (λ o. answered (withReceiver (now .unit) opened) (now .unit .address) source control asked o after) came)
+        (done answer (held (now .unit .mode) (c .lent .edac) (now .memory))) (withItsMessage (now .unit) message source control asked c))
+    the-CRC-on-the-line-is-fresh =
+        a-sent-command-is-carried-out (now .unit) message source control asked sending c sends
+        ∙ ap (λ o. delivering (length sending)
+        (answered (withReceiver (now .unit) opened) (now .unit .address) source control asked o (withItsMessage (now .unit) message source control asked c))) came
 
     -- And where poll is set, the bytes sent are the packed reply with that CRC.
-    pub the-CRC-sent-is-fresh : bytesOf sending ≡ fend ∷ bodyOf sent → c .byte ≡ fend → polls control ≡ true
-        → take (sentOf (fedOf (now .unit) message sending c .last .answer)) (fedOf (now .unit) message sending c .last .world .reply)
-        ≡ packedOf (replyMessage 1 (now .unit .address) source control answer)
-    the-CRC-sent-is-fresh is ends polled =
-        ap (λ (f : Fed). take (sentOf (f .last .answer)) (f .last .world .reply)) (the-CRC-on-the-line-is-fresh is ends)
-        ∙ what-is-sent-is-the-packed-answer (withReceiver (now .unit) opened) (now .unit .address) source control asked after polled
-        (done answer (held (now .unit .mode) (c .lent .edac) (now .memory))) (λ wrong. done-is-not-unfitted wrong)
+    pub the-CRC-sent-is-fresh : polls control ≡ true
+        → sentBy (leftBy (now .unit) message sending c) ≡ packedOf (replyMessage 1 (now .unit .address) source control answer)
+    the-CRC-sent-is-fresh polled =
+        a-command-that-is-done-sends-its-data (now .unit) message source control asked sending c sends polled answer (held (now .unit .mode) (c .lent .edac) (now .memory)) came

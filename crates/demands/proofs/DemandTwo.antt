@@ -25,6 +25,7 @@ use Rattle.line.proofs.Runs.{a-closed-run-is-heard-counted-and-stored-as-it-unp
 use Rattle.line.proofs.Bounds.{the-count-never-passes-one-above-the-largest, the-buffer-keeps-its-length}
 use Rattle.line.proofs.RoundTrip.{a-body-after-any-FEND-is-received-as-its-message, what-is-packed-is-received-back}
 use Rattle.field.specs.Fields.{word16At, bytes16}
+use Rattle.field.proofs.Words.{two-bytes}
 use Rattle.memory.specs.Bytes.{stretch, begun}
 use Rattle.carrying.specs.Ending.{longestData, Ending, done, refused, unfitted}
 use Rattle.carrying.specs.Held.{Held}
@@ -42,8 +43,8 @@ use Rattle.judging.proofs.Serving.{a-served-step-fits}
 use Rattle.replying.specs.Replies.{codeOf, polls, replyControl, sealed, replyMessage, Said, saying, saidOf}
 use Rattle.unit.specs.World.{World, lengthsOf, Outcome, outcome, withMessage, heldOf}
 use Rattle.unit.specs.Steps.{firstOfFram, answered, orderedOf, commandedOf, servedOf, stepOf}
-use Rattle.demands.specs.Calls.{Call, lentTo, answering, fedOf, bytesOf, delivering, Suits, AllSuit, Idle, comesTo, addressedOf, answerMessage, Bytes}
-use Rattle.demands.proofs.Cases.{of-any-call, a-refused-step-has-its-number}
+use Rattle.demands.specs.Calls.{Call, Fed, lentTo, answering, fedOf, bytesOf, delivering, Suits, AllSuit, Idle, comesTo, addressedOf, answerMessage, Bytes}
+use Rattle.demands.proofs.Cases.{of-anything-heard, of-any-call, a-refused-step-has-its-number}
 use Rattle.demands.proofs.DemandOne.{high-sends}
 
 -- ---- byte by byte
@@ -55,15 +56,15 @@ module _ (u : Unit) (message : List ℕ) (c : Call) (low : u .receiver .count �
   abbrev got : Reception
   got = receiveOf messageSize (u .receiver) (c .byte) message
 
-  fit : stepFit u (lengthsOf (lentTo message c)) ≡ Fits
+  pub a-call-that-suits-fits : stepFit u (lengthsOf (lentTo message c)) ≡ Fits
   unfolding stepFit
-  fit =
+  a-call-that-suits-fits =
       ap (λ next. lengthsFit (u .address) (framAsSetUp (length (c .lent .fram)) (u .«fram_len»)) (lengthsOf (lentTo message c)) next) (counts (u .receiver .count) low)
       ∙ suits
 
   served : stepOf u (c .byte) (lentTo message c) ≡ comesTo (withReceiver u (got .receiver)) (got .heard) (lentTo (got .message) c)
   unfolding stepOf judgeOf receivedOf
-  served = simp fit
+  served = simp a-call-that-suits-fits
 
   still-low : got .receiver .count ≤ largestCount
   still-low = the-count-never-passes-one-above-the-largest messageSize (c .byte ∷ []) (u .receiver) message low
@@ -104,7 +105,7 @@ all-but-the-last (d ∷ calls) c h u message low all last e =
 
 -- what is lent suits, and so the message buffer is long enough
 long-enough : (u : Unit) (message : List ℕ) (c : Call) → u .receiver .count ≤ largestCount → Suits (u .address) (u .«fram_len») (length message) c → messageSize ≤ length message
-long-enough u message c low suits = a-served-step-fits u (lengthsOf (lentTo message c)) (fit u message c low suits) .message-fits
+long-enough u message c low suits = a-served-step-fits u (lengthsOf (lentTo message c)) (a-call-that-suits-fits u message c low suits) .message-fits
 
 as-many : (calls : List Call) → length (bytesOf calls) ≡ length calls
 as-many [] = refl
@@ -134,10 +135,10 @@ module _ (u : Unit) (message : List ℕ) (calls : List Call) (c : Call) (run : L
       let short : length (keptOf messageSize run) ≤ messageSize = part messageSize (unpackOf run .bytes) in
       closed _ (a-closed-run-is-heard-counted-and-stored-as-it-unpacks messageSize run message none (omega arith)) (heardOf messageSize run) refl
 
-  message-judged : (m : List ℕ) → run ≡ bodyOf m → 0 < length m → length m ≤ messageSize
-      → fedOf (withReceiver u opened) message calls c ≡ delivering (length calls) (servedOf (withReceiver u opened) (runOf (u .address) (length m) (m ++ drop (length m) message)) (lentTo (m ++ drop (length m) message) c))
-  unfolding verdictOf
-  message-judged m body some within =
+  body-judged : (m : List ℕ) → run ≡ bodyOf m → 0 < length m → length m ≤ messageSize
+      → fedOf (withReceiver u opened) message calls c
+      ≡ delivering (length calls) (comesTo (withReceiver u opened) (heard.Message (length m)) (lentTo (m ++ drop (length m) message) c))
+  body-judged m body some within =
       let long = long-enough (withReceiver u opened) message c (omega arith) last in
       closed _ (ap (λ r. feedOf messageSize opened (r ++ (fend ∷ [])) message) body ∙ a-body-after-any-FEND-is-received-as-its-message messageSize m message some within (omega arith))
       (heard.Message (length m)) (ap (λ (r : List ℕ). replicate (length r) heard.Taken ++ (heard.Message (length m) ∷ [])) (sym body))
@@ -156,7 +157,7 @@ pub a-served-FEND-opens-a-run : (u : Unit) (message : List ℕ) (c : Call) → u
     → stepOf u (c .byte) (lentTo message c) .unit .receiver ≡ opened
 unfolding receiveOf
 a-served-FEND-opens-a-run u message c low suits ends =
-    the-receiver-is-the-line's u (c .byte) (lentTo message c) (fit u message c low suits)
+    the-receiver-is-the-line's u (c .byte) (lentTo message c) (a-call-that-suits-fits u message c low suits)
     ∙ ap (λ (n : ℕ). receiveOf messageSize (u .receiver) n message .receiver) ends
 
 -- ---- what a sealed message comes to
@@ -167,11 +168,6 @@ sum-below [] sum h b = h
 sum-below (byte ∷ bytes) sum h b =
     let small = b .0 in
     sum-below bytes (byteStep sum byte) (byteStep-below sum byte h (omega arith)) (b .1)
-
-two-bytes : (n : ℕ) → n < 2 ^ 16 → n % 256 + 256 * (n / 256 % 256) ≡ n
-two-bytes n h =
-    let high : n / 256 % 256 ≡ n / 256 = omega arith in
-    omega arith
 
 module _ (head tail : List ℕ) (bytes : Bytes head) where
   apart : sealed head ++ tail ≡ head ++ (bytes16 (sumOf head) ++ tail)
@@ -244,50 +240,80 @@ module _ (u : Unit) (w : World) (destination source control : ℕ) (field : List
 -- ---- demand 2
 
 module _ (u : Unit) (message : List ℕ) (calls : List Call) (c : Call) (low : u .receiver .count ≤ largestCount) (all : AllSuit (u .address) (u .«fram_len») (length message) calls)
-    (last : Suits (u .address) (u .«fram_len») (length message) c) (ends : c .byte ≡ fend) (destination source control : ℕ) (field : List ℕ)
-    (bytes : Bytes (destination ∷ source ∷ control ∷ field)) (short : length field ≤ longestData) where
-  abbrev sent : List ℕ
-  sent = sealed (destination ∷ source ∷ control ∷ field)
+    (last : Suits (u .address) (u .«fram_len») (length message) c) (ends : c .byte ≡ fend) where
+  -- a FEND where nothing is open is only taken
+  quiet : (w : World) → Idle (u .receiver) → comesTo (withReceiver u opened) (closedOf (u .receiver .place) (u .receiver .count)) w ≡ outcome (withReceiver u opened) Taken w
+  unfolding servedOf verdictOf
+  quiet w (inl e) = ap (λ h. comesTo (withReceiver u opened) h w) e
+  quiet w (inr e) = ap (λ h. comesTo (withReceiver u opened) h w) e
 
-  abbrev carriedOut : Outcome
-  carriedOut = addressedOf (withReceiver u opened) destination source control field (lentTo (sent ++ drop (length sent) message) c)
+  opening : Idle (u .receiver) → (d : Call) → Suits (u .address) (u .«fram_len») (length message) d → d .byte ≡ fend
+      → stepOf u (d .byte) (lentTo message d) ≡ outcome (withReceiver u opened) Taken (lentTo message d)
+  unfolding receiveOf
+  opening idle d suits e =
+      served u message d low suits
+      ∙ ap (λ (o : Reception). comesTo (withReceiver u (o .receiver)) (o .heard) (lentTo (o .message) d)) (ap (λ (n : ℕ). receiveOf messageSize (u .receiver) n message) e)
+      ∙ quiet (lentTo message d) idle
 
-  body-carried-out : (some : List Call) → AllSuit (u .address) (u .«fram_len») (length message) some → bytesOf some ≡ bodyOf sent
-      → fedOf (withReceiver u opened) message some c ≡ delivering (length some) carriedOut
-  body-carried-out some suit is =
-      let long = sealed-length u (lentTo message c) destination source control field bytes short in
-      message-judged u message some c (bodyOf sent) is ends suit last sent refl (omega arith) (omega arith)
-      ∙ ap (delivering (length some)) (judged (withReceiver u opened) (lentTo message c) destination source control field bytes short)
+  -- Any message, sound or not, of 5 to 1,033 bytes (of one byte or more, in fact).
+  module _ (m : List ℕ) (some : 0 < length m) (within : length m ≤ messageSize) where
+    abbrev judgedThere : Outcome
+    judgedThere = comesTo (withReceiver u opened) (heard.Message (length m)) (lentTo (m ++ drop (length m) message) c)
 
-  -- Demand 2. A command with any data of legal length, sealed with its CRC and packed, comes after any FEND, by calls that lend what they
-  -- like in the right lengths, into a message buffer that nobody else alters: every byte but the last FEND is taken, and that one
-  -- carries the command out on what it is lent and answers, as its definition says.
-  pub after-any-FEND-a-packed-command-is-carried-out : u .receiver ≡ opened → bytesOf calls ≡ bodyOf sent
-      → fedOf u message calls c ≡ delivering (length calls) carriedOut
-  after-any-FEND-a-packed-command-is-carried-out e is =
-      let same : withReceiver u opened ≡ u = ap (withReceiver u) (sym e) in
-      subst (λ v. fedOf v message calls c ≡ delivering (length calls) carriedOut) same (body-carried-out calls all is)
+    -- Demand 2, the round trip at the unit. Packed, it comes after any FEND, by calls that lend what they like in the right lengths, into
+    -- a message buffer that nobody else alters: every byte but the last FEND is taken, and that one judges the message as it was
+    -- packed, with its length as the count.
+    pub after-any-FEND-a-packed-message-is-judged : u .receiver ≡ opened → bytesOf calls ≡ bodyOf m → fedOf u message calls c ≡ delivering (length calls) judgedThere
+    after-any-FEND-a-packed-message-is-judged e is =
+        let same : withReceiver u opened ≡ u = ap (withReceiver u) (sym e) in
+        subst (λ v. fedOf v message calls c ≡ delivering (length calls) judgedThere) same (body-judged u message calls c (bodyOf m) is ends all last m refl some within)
 
-  -- The same with both its FENDs, to a unit that is fresh or has nothing open.
-  pub a-packed-command-is-carried-out : Idle (u .receiver) → bytesOf calls ≡ fend ∷ bodyOf sent → fedOf u message calls c ≡ delivering (length calls) carriedOut
-  unfolding servedOf verdictOf receiveOf
-  a-packed-command-is-carried-out idle = by calls all
-    where
-      quiet : (w : World) → Idle (u .receiver) → comesTo (withReceiver u opened) (closedOf (u .receiver .place) (u .receiver .count)) w ≡ outcome (withReceiver u opened) Taken w
-      quiet w (inl e) = ap (λ h. comesTo (withReceiver u opened) h w) e
-      quiet w (inr e) = ap (λ h. comesTo (withReceiver u opened) h w) e
+    -- The same with both its FENDs, to a unit that is fresh or has nothing open.
+    pub a-packed-message-is-judged : Idle (u .receiver) → bytesOf calls ≡ fend ∷ bodyOf m → fedOf u message calls c ≡ delivering (length calls) judgedThere
+    a-packed-message-is-judged idle = by calls all
+      where
+        by : (part : List Call) → AllSuit (u .address) (u .«fram_len») (length message) part → bytesOf part ≡ fend ∷ bodyOf m → fedOf u message part c ≡ delivering (length part) judgedThere
+        by [] suit is = let z : suc (length (bodyOf m)) ≡ 0 = sym (ap length is) in absurd (omega arith)
+        by (d ∷ part) suit is =
+            ap (λ o. answering (o .answer) (fedOf (o .unit) (o .world .message) part c)) (opening idle d (suit .0) (ap (λ l. getD l 0 0) is))
+            ∙ ap (answering Taken) (body-judged u message part c (bodyOf m) (ap (drop 1) is) ends (suit .1) last m refl some within)
 
-      opening : (d : Call) → Suits (u .address) (u .«fram_len») (length message) d → d .byte ≡ fend → stepOf u (d .byte) (lentTo message d) ≡ outcome (withReceiver u opened) Taken (lentTo message d)
-      opening d suits e =
-          served u message d low suits
-          ∙ ap (λ (o : Reception). comesTo (withReceiver u (o .receiver)) (o .heard) (lentTo (o .message) d)) (ap (λ (n : ℕ). receiveOf messageSize (u .receiver) n message) e)
-          ∙ quiet (lentTo message d) idle
+    -- And it stands at the start of the message buffer byte for byte, the rest of which is as it was.
+    pub a-packed-message-stands-in-the-buffer : Idle (u .receiver) → bytesOf calls ≡ fend ∷ bodyOf m → fedOf u message calls c .last .world .message ≡ m ++ drop (length m) message
+    unfolding answered
+    a-packed-message-stands-in-the-buffer idle is =
+        ap (λ (f : Fed). f .last .world .message) (a-packed-message-is-judged idle is)
+        ∙ of-anything-heard (λ (o : Outcome). o .world .message ≡ m ++ drop (length m) message) (withReceiver u opened) (lentTo (m ++ drop (length m) message) c)
+        (record { taken = refl; elsewhere = refl; dropped = λ answer which number four silent. refl; commanded = λ destination source control field short. refl })
+        (heard.Message (length m))
 
-      by : (some : List Call) → AllSuit (u .address) (u .«fram_len») (length message) some → bytesOf some ≡ fend ∷ bodyOf sent → fedOf u message some c ≡ delivering (length some) carriedOut
-      by [] suit is = let z : suc (length (bodyOf sent)) ≡ 0 = sym (ap length is) in absurd (omega arith)
-      by (d ∷ some) suit is =
-          ap (λ o. answering (o .answer) (fedOf (o .unit) (o .world .message) some c)) (opening d (suit .0) (ap (λ l. getD l 0 0) is))
-          ∙ ap (answering Taken) (body-carried-out some (suit .1) (ap (drop 1) is))
+  module _ (destination source control : ℕ) (field : List ℕ) (bytes : Bytes (destination ∷ source ∷ control ∷ field)) (short : length field ≤ longestData) where
+    abbrev sent : List ℕ
+    sent = sealed (destination ∷ source ∷ control ∷ field)
+
+    abbrev carriedOut : Outcome
+    carriedOut = addressedOf (withReceiver u opened) destination source control field (lentTo (sent ++ drop (length sent) message) c)
+
+    long-as-it-is : length sent ≡ length field + 5
+    long-as-it-is = sealed-length u (lentTo message c) destination source control field bytes short
+
+    judged-as-a-command : comesTo (withReceiver u opened) (heard.Message (length sent)) (lentTo (sent ++ drop (length sent) message) c) ≡ carriedOut
+    unfolding verdictOf
+    judged-as-a-command = judged (withReceiver u opened) (lentTo message c) destination source control field bytes short
+
+    -- Demand 2, the way there. A command with any data of legal length, sealed with its CRC and packed, comes after any FEND: every byte
+    -- but the last FEND is taken, and that one carries the command out on what it is lent and answers, as its definition says.
+    pub after-any-FEND-a-packed-command-is-carried-out : u .receiver ≡ opened → bytesOf calls ≡ bodyOf sent
+        → fedOf u message calls c ≡ delivering (length calls) carriedOut
+    after-any-FEND-a-packed-command-is-carried-out e is =
+        let long = long-as-it-is in
+        after-any-FEND-a-packed-message-is-judged sent (omega arith) (omega arith) e is ∙ ap (delivering (length calls)) judged-as-a-command
+
+    -- The same with both its FENDs, to a unit that is fresh or has nothing open.
+    pub a-packed-command-is-carried-out : Idle (u .receiver) → bytesOf calls ≡ fend ∷ bodyOf sent → fedOf u message calls c ≡ delivering (length calls) carriedOut
+    a-packed-command-is-carried-out idle is =
+        let long = long-as-it-is in
+        a-packed-message-is-judged sent (omega arith) (omega arith) idle is ∙ ap (delivering (length calls)) judged-as-a-command
 
 -- Where poll is set and the command did not fault, what is sent is the packed message of the answer.
 module _ (u : Unit) (destination source control : ℕ) (field : List ℕ) (w : World) (polled : polls control ≡ true) where

@@ -1,6 +1,9 @@
 pub mod Cases
 pub mod DemandOne
 pub mod DemandTwo
+pub mod Orders
 pub mod DemandThree
+pub mod Storing
+pub mod Doing
 pub mod Worked
 pub mod Settled

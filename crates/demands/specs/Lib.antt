@@ -1,3 +1,4 @@
 pub mod Leaving
 pub mod Calls
+pub mod Orders
 pub mod Worked

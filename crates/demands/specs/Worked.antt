@@ -1,34 +1,72 @@
--- 01, "Small examples": P1 to P12, under one statement. Assumes nothing.
+-- 01, "Small examples": P1 to P12, under one statement. Those that a unit can show are run on one, byte by byte. Assumes nothing.
 use mathlib.Core.Path.{_≡_}
 use mathlib.Core.Bool.{true, false}
-use mathlib.Core.List.{List, [], _∷_, map}
+use mathlib.Core.List.{List, [], _∷_, _++_}
 use Prim.Native.Nat.{ℕ}
 use lib.ListN.{take, replicate, set}
 use Rattle.crc.specs.Sum.{sumOf}
 use Rattle.crc.specs.Joining.{joinOf, withPart}
 use Rattle.line.specs.Unpacking.{unpackOf}
 use Rattle.memory.specs.Bytes.{stored}
-use Rattle.carrying.specs.Ending.{longestData, done, refused}
-use Rattle.file_commands.specs.ReadFile.{readFileOf}
-use Rattle.file_commands.specs.WriteFile.{writeFileOf}
-use Rattle.answer.specs.declared.Answer.the-variants.{Taken, Acked, Runt}
-use Rattle.unit.specs.World.{World, world}
-use Rattle.unit.specs.Steps.{setUpOf}
-use Rattle.demands.specs.Calls.{Call, Fed, fedOf}
+use Rattle.judging.specs.declared.Unit.{Unit}
+use Rattle.answer.specs.Answers.{numberOf, sentOf}
+use Rattle.unit.specs.World.{World, world, Outcome}
+use Rattle.unit.specs.Steps.{setUpOf, stepOf}
+
+-- What is seen of bytes on the line of a unit whose memory and buffers nobody else touches: the number of each answer, all that is
+-- sent, and what was lent as the last byte leaves it.
+pub record Seen : Type 0 where
+  pub answers : List ℕ
+  pub sent : List ℕ
+  pub left : World
+
+abbrev pub seenOf : Unit → World → List ℕ → Seen
+seenOf u w [] = record { answers = []; sent = []; left = w }
+seenOf u w (byte ∷ bytes) =
+    let o = stepOf u byte w in
+    let rest = seenOf (o .unit) (o .world) bytes in
+    record {
+      answers = numberOf (o .answer) ∷ rest .answers;
+      sent = take (sentOf (o .answer)) (o .world .reply) ++ rest .sent;
+      left = rest .left;
+    }
+
+-- A fresh unit 0x41 with this EDAC memory, all else being zeros: what bytes show.
+abbrev pub lentWith : List ℕ → World
+lentWith edac = world edac (replicate 256 0) (replicate 1 0) (replicate 31 0) (replicate 1033 0) (replicate 2068 0)
+
+abbrev pub shownBy : List ℕ → List ℕ → Seen
+shownBy edac bytes = let o = setUpOf 0x41 (lentWith edac) in seenOf (o .unit) (o .world) bytes
 
 abbrev pub zeros : List ℕ
 zeros = replicate 1536 0
 
-abbrev pub blank : World
-blank = world zeros (replicate 256 0) (replicate 1 0) (replicate 31 0) (replicate 1033 0) (replicate 2068 0)
+-- The diagnostics where none moved, and where one run was dropped: channel 0x07 framing, 0x08 runt.
+abbrev pub noCounts : List ℕ
+noCounts = replicate 31 0
 
--- A call that lends what set-up of unit 0x41 left.
-abbrev pub calling : ℕ → Call
-calling byte = record { byte = byte; lent = setUpOf 0x41 blank .world }
+abbrev pub onceAt : ℕ → List ℕ
+onceAt channel = set noCounts channel 1
 
--- Bytes to that fresh unit, the last of them apart.
-abbrev pub heard : List ℕ → ℕ → Fed
-heard bytes byte = fedOf (setUpOf 0x41 blank .unit) (blank .message) (map calling bytes) (calling byte)
+-- The answers, the bytes sent, the diagnostics and EDAC memory afterwards; FRAM as it was.
+abbrev pub Shows : List ℕ → List ℕ → List ℕ → List ℕ → List ℕ → List ℕ → Type 0
+Shows before bytes answers sent diagnostics edac =
+    let s = shownBy before bytes in
+    (s .answers ≡ answers) × (s .sent ≡ sent) × (s .left .diagnostics ≡ diagnostics) × (s .left .edac ≡ edac) × (s .left .fram ≡ replicate 256 0)
+
+-- INIT 0x20050000 to the unit, from 0x11, and its reply: application mode, which the commands on files need.
+abbrev pub init : List ℕ
+init = 0xC0 ∷ 0x41 ∷ 0x11 ∷ 0x81 ∷ 0x00 ∷ 0x00 ∷ 0x05 ∷ 0x20 ∷ 0x6C ∷ 0xB3 ∷ 0xC0 ∷ []
+
+abbrev pub initReply : List ℕ
+initReply = 0xC0 ∷ 0x11 ∷ 0x41 ∷ 0xA1 ∷ 0x00 ∷ 0x00 ∷ 0x05 ∷ 0x20 ∷ 0x53 ∷ 0xE1 ∷ 0xC0 ∷ []
+
+abbrev pub initAnswers : List ℕ
+initAnswers = replicate 10 0 ++ (1 ∷ [])
+
+-- EDAC memory with mode 03 and value 00 00 80 3F.
+abbrev pub modeAndValue : List ℕ
+modeAndValue = set (0x00 ∷ 0x00 ∷ 0x80 ∷ 0x3F ∷ replicate 1532 0) 0x5C3 0x03
 
 pub record WorkedExamples : Type 0 where
   pub P1 : sumOf [] ≡ 0xFFFF
@@ -36,16 +74,40 @@ pub record WorkedExamples : Type 0 where
   pub P3 : sumOf (0xFF ∷ 0xFF ∷ []) ≡ 0x0000
   pub P4 : sumOf (0x00 ∷ []) ≡ 0x0F87
   pub P5 : sumOf (0x41 ∷ 0x11 ∷ 0x80 ∷ []) ≡ 0x6DD8
-  pub P6 : let f = heard (0xC0 ∷ 0x41 ∷ 0x11 ∷ 0x80 ∷ 0xD8 ∷ 0x6D ∷ []) 0xC0 in
-      (f .answers ≡ replicate 6 Taken) × (f .last .answer ≡ Acked 24) × (take 4 (f .last .world .reply) ≡ 0xC0 ∷ 0x11 ∷ 0x41 ∷ 0xA0 ∷ [])
+  -- A reply whose message starts 11 41 A0: the whole of it.
+  pub P6 : Shows zeros (0xC0 ∷ 0x41 ∷ 0x11 ∷ 0x80 ∷ 0xD8 ∷ 0x6D ∷ 0xC0 ∷ []) (replicate 6 0 ++ (1 ∷ []))
+      (0xC0 ∷ 0x11 ∷ 0x41 ∷ 0xA0 ∷ 0x57 ∷ 0x48 ∷ 0x45 ∷ 0x45 ∷ 0x4C ∷ 0x20 ∷ 0x55 ∷ 0x4E ∷ 0x49 ∷ 0x54 ∷ 0x20 ∷ 0x4E ∷ 0x53 ∷ 0x50 ∷ 0x20 ∷ 0x30 ∷ 0x31
+      ∷ 0x8A ∷ 0x6D ∷ 0xC0 ∷ [])
+      noCounts zeros
+  -- C0 and DB stand in the message buffer, as runts of one byte; framing is answer 5.
   pub P7 : (unpackOf (0xDB ∷ 0xDC ∷ []) ≡ record { bytes = 0xC0 ∷ []; fault = false })
       × (unpackOf (0xDB ∷ 0xDD ∷ []) ≡ record { bytes = 0xDB ∷ []; fault = false })
       × (unpackOf (0xDB ∷ 0x00 ∷ []) ≡ record { bytes = []; fault = true })
+      × Shows zeros (0xC0 ∷ 0xDB ∷ 0xDC ∷ 0xC0 ∷ []) (0 ∷ 0 ∷ 0 ∷ 6 ∷ []) [] (onceAt 0x08) zeros
+      × (take 1 (shownBy zeros (0xC0 ∷ 0xDB ∷ 0xDC ∷ 0xC0 ∷ []) .left .message) ≡ 0xC0 ∷ [])
+      × Shows zeros (0xC0 ∷ 0xDB ∷ 0xDD ∷ 0xC0 ∷ []) (0 ∷ 0 ∷ 0 ∷ 6 ∷ []) [] (onceAt 0x08) zeros
+      × (take 1 (shownBy zeros (0xC0 ∷ 0xDB ∷ 0xDD ∷ 0xC0 ∷ []) .left .message) ≡ 0xDB ∷ [])
+      × Shows zeros (0xC0 ∷ 0xDB ∷ 0x00 ∷ 0xC0 ∷ []) (0 ∷ 0 ∷ 0 ∷ 5 ∷ []) [] (onceAt 0x07) zeros
   pub P8 : joinOf (record { sum = 0x00FF; len = 1 }) (record { sum = 0x00FF; len = 1 }) ≡ withPart (record { sum = 0x0000; len = 2 })
-  pub P9 : (heard (0xC0 ∷ []) 0xC0 .last .answer ≡ Taken)
-      × (heard (0xC0 ∷ 0x01 ∷ 0x02 ∷ 0x03 ∷ 0x04 ∷ []) 0xC0 .last .answer ≡ Runt)
-  pub P10 : readFileOf longestData (set (0x00 ∷ 0x00 ∷ 0x80 ∷ 0x3F ∷ replicate 1532 0) 0x5C3 0x03) (0x00 ∷ [])
-      ≡ done (0x00 ∷ 0x03 ∷ 0x00 ∷ 0x00 ∷ 0x80 ∷ 0x3F ∷ []) tt
-  pub P11 : writeFileOf longestData zeros (0x28 ∷ 0x01 ∷ 0x02 ∷ 0x03 ∷ 0x04 ∷ 0x28 ∷ 0x05 ∷ 0x06 ∷ 0x07 ∷ 0x08 ∷ [])
-      ≡ done (0x28 ∷ 0x05 ∷ 0x06 ∷ 0x07 ∷ 0x08 ∷ 0x28 ∷ 0x05 ∷ 0x06 ∷ 0x07 ∷ 0x08 ∷ []) (stored zeros 0x0A0 (0x05 ∷ 0x06 ∷ 0x07 ∷ 0x08 ∷ []))
-  pub P12 : writeFileOf longestData zeros (0x28 ∷ 0x01 ∷ 0x02 ∷ 0x03 ∷ 0x04 ∷ 0x29 ∷ 0x05 ∷ []) ≡ refused
+  -- And DIAGNOSTIC 08 then shows the runt.
+  pub P9 : Shows zeros (0xC0 ∷ 0xC0 ∷ []) (0 ∷ 0 ∷ []) [] noCounts zeros
+      × Shows zeros (0xC0 ∷ 0x01 ∷ 0x02 ∷ 0x03 ∷ 0x04 ∷ 0xC0 ∷ []) (0 ∷ 0 ∷ 0 ∷ 0 ∷ 0 ∷ 6 ∷ []) [] (onceAt 0x08) zeros
+      × Shows zeros (0xC0 ∷ 0x01 ∷ 0x02 ∷ 0x03 ∷ 0x04 ∷ 0xC0 ∷ 0x41 ∷ 0x11 ∷ 0x84 ∷ 0x08 ∷ 0x80 ∷ 0xB1 ∷ 0xC0 ∷ []) (0 ∷ 0 ∷ 0 ∷ 0 ∷ 0 ∷ 6 ∷ (replicate 6 0 ++ (1 ∷ [])))
+      (0xC0 ∷ 0x11 ∷ 0x41 ∷ 0xA4 ∷ 0x08 ∷ 0x01 ∷ 0x00 ∷ 0x00 ∷ 0x00 ∷ 0x6D ∷ 0x28 ∷ 0xC0 ∷ []) (onceAt 0x08) zeros
+  -- The data of the reply is 00 03 00 00 80 3F.
+  pub P10 : Shows modeAndValue (init ++ (0xC0 ∷ 0x41 ∷ 0x11 ∷ 0x87 ∷ 0x00 ∷ 0xA0 ∷ 0x17 ∷ 0xC0 ∷ [])) (initAnswers ++ replicate 7 0 ++ (1 ∷ []))
+      (initReply ++ (0xC0 ∷ 0x11 ∷ 0x41 ∷ 0xA7 ∷ 0x00 ∷ 0x03 ∷ 0x00 ∷ 0x00 ∷ 0x80 ∷ 0x3F ∷ 0xCD ∷ 0x62 ∷ 0xC0 ∷ []))
+      noCounts modeAndValue
+  -- 0x0A0 holds 05 06 07 08; the data of the reply is 28 05 06 07 08 twice.
+  pub P11 : Shows zeros
+      (init ++ (0xC0 ∷ 0x41 ∷ 0x11 ∷ 0x88 ∷ 0x28 ∷ 0x01 ∷ 0x02 ∷ 0x03 ∷ 0x04 ∷ 0x28 ∷ 0x05 ∷ 0x06 ∷ 0x07 ∷ 0x08 ∷ 0x67 ∷ 0x90 ∷ 0xC0 ∷ []))
+      (initAnswers ++ replicate 16 0 ++ (1 ∷ []))
+      (initReply
+      ++ (0xC0 ∷ 0x11 ∷ 0x41 ∷ 0xA8 ∷ 0x28 ∷ 0x05 ∷ 0x06 ∷ 0x07 ∷ 0x08 ∷ 0x28 ∷ 0x05 ∷ 0x06 ∷ 0x07 ∷ 0x08 ∷ 0x6D ∷ 0x7E ∷ 0xC0 ∷ []))
+      noCounts (stored zeros 0x0A0 (0x05 ∷ 0x06 ∷ 0x07 ∷ 0x08 ∷ []))
+  -- Refused: answer 3, the NACK has the command's data, and nothing is stored.
+  pub P12 : Shows zeros
+      (init ++ (0xC0 ∷ 0x41 ∷ 0x11 ∷ 0x88 ∷ 0x28 ∷ 0x01 ∷ 0x02 ∷ 0x03 ∷ 0x04 ∷ 0x29 ∷ 0x05 ∷ 0x0A ∷ 0xFF ∷ 0xC0 ∷ []))
+      (initAnswers ++ replicate 13 0 ++ (3 ∷ []))
+      (initReply ++ (0xC0 ∷ 0x11 ∷ 0x41 ∷ 0x88 ∷ 0x28 ∷ 0x01 ∷ 0x02 ∷ 0x03 ∷ 0x04 ∷ 0x29 ∷ 0x05 ∷ 0xD4 ∷ 0x65 ∷ 0xC0 ∷ []))
+      noCounts zeros

@@ -1,0 +1,90 @@
+-- Demand 2, on what is done: a POKE inside FRAM and a WRITE EDAC inside EDAC memory, sent to a unit, are done, and store where their
+-- address says. (A unit that refused them all would meet what is said of those that are done.) Assumes nothing.
+use mathlib.Core.Path.{_≡_, refl, sym, ap, ap₂, _∙_, subst}
+use mathlib.Core.List.{List, _++_}
+use Prim.Native.Nat.{ℕ, _+_, _-_, _≤_, _<_}
+use native.Mathlib.Omega.{arith}
+use borrow.Author.Tests.{le-leb}
+use mathlib.Core.Bool.{true}
+use lib.ListN.{length}
+use Rattle.line.specs.Receiver.{opened}
+use Rattle.field.specs.Fields.{word16At, word32At, bytes16, bytes32}
+use Rattle.field.proofs.Words.{two-bytes, four-bytes}
+use Rattle.memory.specs.Edac.{edacSize, insideEdac}
+use Rattle.memory.specs.Bytes.{stored}
+use Rattle.blocks.specs.Fram.{kept, placeOf, storeOf}
+use Rattle.blocks.specs.declared.Found.the-variants.{At}
+use Rattle.carrying.specs.declared.Mode.the-variants.{Application}
+use Rattle.carrying.specs.Ending.{longestData, done}
+use Rattle.carrying.specs.Held.{Held, held, onEdac, onFram}
+use Rattle.carrying.proofs.Room.{either-way}
+use Rattle.fram_commands.specs.Poke.{pokeOf}
+use Rattle.fram_commands.proofs.Ways.{poke-inside}
+use Rattle.edac_commands.specs.WriteEdac.{writeEdacOf}
+use Rattle.edac_commands.proofs.Ways.{edac-write-inside}
+use Rattle.command.proofs.Codes.{in-either-mode, in-application}
+use Rattle.answer.specs.Answers.{numberOf}
+use Rattle.judging.specs.declared.Unit.{Unit}
+use Rattle.judging.specs.Judging.{withReceiver}
+use Rattle.replying.specs.Replies.{codeOf, polls, Said, saying, saidOf}
+use Rattle.unit.specs.World.{World, Outcome, heldOf}
+use Rattle.unit.specs.Steps.{firstOfFram, answered}
+use Rattle.demands.specs.Calls.{Call, Fed}
+use Rattle.demands.specs.Orders.{Sends, withItsMessage, leftBy, cameTo}
+use Rattle.demands.proofs.Orders.{a-sent-command-is-carried-out}
+
+module _ (u : Unit) (message : List ℕ) (source control : ℕ) (field : List ℕ) (calls : List Call) (c : Call) (sends : Sends u message source control field calls c) where
+  abbrev laid : World
+  laid = withItsMessage u message source control field c
+
+  answers-so : (reply : List ℕ) (after : Held)
+      → let o = answered (withReceiver u opened) (u .address) source control field (done reply after) laid in
+      (numberOf (o .answer) ≤ 2) × (o .world .edac ≡ after .edac) × (o .world .fram ≡ after .memory .fram)
+  unfolding answered saidOf saying
+  answers-so reply after = (either-way (λ (s : Said). numberOf (s .answer) ≤ 2) (polls control) _ _ (λ _. omega arith) (λ _. omega arith), refl, refl)
+
+  -- A command that is done answers 1 or 2, and leaves what it came to.
+  pub a-command-that-is-done-answers-so : (reply : List ℕ) (after : Held) → cameTo u c control field ≡ done reply after
+      → let o = leftBy u message calls c in (numberOf (o .answer) ≤ 2) × (o .world .edac ≡ after .edac) × (o .world .fram ≡ after .memory .fram)
+  a-command-that-is-done-answers-so reply after came =
+      subst (λ (o : Outcome). (numberOf (o .answer) ≤ 2) × (o .world .edac ≡ after .edac) × (o .world .fram ≡ after .memory .fram))
+      (sym (ap (λ (f : Fed). f .last) (a-sent-command-is-carried-out u message source control field calls c sends)
+      ∙ ap (λ o. answered (withReceiver u opened) (u .address) source control field o laid) came))
+      (answers-so reply after)
+
+-- A POKE of 1 to 1,024 bytes inside FRAM is done, and FRAM then has them where its address says, and all else as it was.
+pub a-POKE-inside-FRAM-is-done : (u : Unit) (message : List ℕ) (source control address : ℕ) (bytes : List ℕ) (calls : List Call) (c : Call)
+    → Sends u message source control (bytes32 address ++ bytes) calls c → codeOf control ≡ 0x03 → 1 ≤ length bytes → address < 4294967296
+    → firstOfFram ≤ address → address + length bytes ≤ firstOfFram + length (c .lent .fram)
+    → (numberOf (leftBy u message calls c .answer) ≤ 2) × (leftBy u message calls c .world .fram ≡ stored (c .lent .fram) (address - firstOfFram) bytes)
+unfolding placeOf storeOf
+a-POKE-inside-FRAM-is-done u message source control address bytes calls c sends code some small starts ends =
+    let field = bytes32 address ++ bytes in
+    let memory = kept (c .lent .fram) (c .lent .sums) in
+    let size : length field - 4 ≡ length bytes = omega arith in
+    let found : placeOf firstOfFram (length (c .lent .fram)) (word32At field 0) (length field - 4) ≡ At (address - firstOfFram)
+    = ap₂ (λ (a n : ℕ). placeOf firstOfFram (length (c .lent .fram)) a n) (four-bytes address small) size
+    ∙ simp (le-leb firstOfFram address starts, le-leb (address + length bytes) (firstOfFram + length (c .lent .fram)) ends) in
+    let so = a-command-that-is-done-answers-so u message source control field calls c sends field (held (u .mode) (c .lent .edac) (storeOf memory (address - firstOfFram) bytes))
+    (in-either-mode longestData firstOfFram (codeOf control) (c .lent .diagnostics) (heldOf u (c .lent)) field 0x03
+    (onFram (heldOf u (c .lent)) (pokeOf longestData firstOfFram memory field)) code refl
+    ∙ ap (onFram (heldOf u (c .lent))) (poke-inside longestData firstOfFram memory field (omega arith) (sends .short) (address - firstOfFram) found)) in
+    (so .0, so .2)
+
+-- A WRITE EDAC of one byte or more, in application mode, of a range that ends at or below 1,536, is done, and EDAC memory then has them
+-- where its address says, and all else as it was.
+pub a-WRITE-EDAC-inside-EDAC-memory-is-done : (u : Unit) (message : List ℕ) (source control address : ℕ) (bytes : List ℕ) (calls : List Call) (c : Call)
+    → Sends u message source control (bytes16 address ++ bytes) calls c → codeOf control ≡ 0x0A → u .mode ≡ Application → 1 ≤ length bytes
+    → address + length bytes ≤ edacSize
+    → (numberOf (leftBy u message calls c .answer) ≤ 2) × (leftBy u message calls c .world .edac ≡ stored (c .lent .edac) address bytes)
+a-WRITE-EDAC-inside-EDAC-memory-is-done u message source control address bytes calls c sends code mode some ends =
+    let field = bytes16 address ++ bytes in
+    let size : length field - 2 ≡ length bytes = omega arith in
+    let there : address ≡ word16At field 0 = sym (two-bytes address (omega arith)) in
+    let inside : insideEdac address (length field - 2) ≡ true = ap (insideEdac address) size ∙ le-leb (address + length bytes) edacSize ends in
+    let so = a-command-that-is-done-answers-so u message source control field calls c sends field
+    (held (u .mode) (stored (c .lent .edac) address bytes) (kept (c .lent .fram) (c .lent .sums)))
+    (in-application longestData firstOfFram (codeOf control) (c .lent .diagnostics) (heldOf u (c .lent)) field 0x0A
+    (onEdac (heldOf u (c .lent)) (writeEdacOf longestData (c .lent .edac) field)) code mode refl
+    ∙ ap (onEdac (heldOf u (c .lent))) (edac-write-inside longestData (c .lent .edac) field (omega arith) (sends .short) address there inside)) in
+    (so .0, so .1)

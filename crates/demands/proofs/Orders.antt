@@ -1,0 +1,81 @@
+-- What a command that is sent to a unit leaves, and what it sends. Assumes nothing.
+use mathlib.Core.Path.{_≡_, refl, sym, ap, _∙_, subst}
+use mathlib.Core.Bool.{Bool, true, false, cond}
+use mathlib.Core.List.{List, [], _∷_, _++_}
+use Prim.Native.Nat.{ℕ, zero, suc, _≤_, _<_}
+use native.Mathlib.Omega.{arith}
+use borrow.Author.Tests.{eq-eqb}
+use lib.ListN.{length, drop, getD}
+use Rattle.line.specs.Packing.{packedOf}
+use Rattle.line.specs.Receiver.{opened}
+use Rattle.memory.specs.Edac.{edacSize}
+use Rattle.carrying.specs.Ending.{Ending, done, refused, unfitted}
+use Rattle.carrying.specs.Held.{Held}
+use Rattle.carrying.proofs.Room.{either-way}
+use Rattle.answer.specs.declared.Answer.the-variants.{Elsewhere}
+use Rattle.answer.specs.Answers.{numberOf}
+use Rattle.judging.specs.declared.Unit.{Unit}
+use Rattle.judging.specs.Judging.{withReceiver}
+use Rattle.judging.proofs.Serving.{a-served-step-fits}
+use Rattle.replying.specs.Replies.{polls, sealed, replyMessage, Said, saying, saidOf}
+use Rattle.unit.specs.World.{World, lengthsOf, Outcome, outcome, withHeld}
+use Rattle.unit.specs.Steps.{answered, orderedOf}
+use Rattle.demands.specs.Calls.{Call, Fed, lentTo, fedOf, delivering, Bytes}
+use Rattle.demands.specs.Orders.{Sends, withItsMessage, leftBy, sentBy, cameTo}
+use Rattle.demands.proofs.DemandTwo.{a-packed-command-is-carried-out, what-is-sent-is-the-packed-answer, a-call-that-suits-fits}
+
+-- a byte of bytes
+pub each-a-byte : (l : List ℕ) → Bytes l → (i : ℕ) → getD l i 0 < 256
+each-a-byte [] all i = omega arith
+each-a-byte (byte ∷ l) all zero = all .0
+each-a-byte (byte ∷ l) all (suc i) = each-a-byte l (all .1) i
+
+done-is-no-fault : {M : Type 0} {reply : List ℕ} {after : M} → done reply after ≡ unfitted → ⊥
+done-is-no-fault e = let z : _≡_ {A = ℕ} 0 1 = cc in absurd (omega arith)
+
+-- what is known of a command that answered 1 or 2
+pub record WasDone (o : Outcome) (came : Ending Held) : Type 0 where
+  pub reply : List ℕ
+  pub after : Held
+  pub is : came ≡ done reply after
+  pub edac : o .world .edac ≡ after .edac
+  pub fram : o .world .fram ≡ after .memory .fram
+
+module _ (u : Unit) (message : List ℕ) (source control : ℕ) (field : List ℕ) (calls : List Call) (c : Call) (sends : Sends u message source control field calls c) where
+  abbrev laid : World
+  laid = withItsMessage u message source control field c
+
+  -- All its bytes are taken but the last, which carries it out and answers.
+  pub a-sent-command-is-carried-out : fedOf u message calls c
+      ≡ delivering (length calls) (answered (withReceiver u opened) (u .address) source control field (cameTo u c control field) laid)
+  a-sent-command-is-carried-out =
+      a-packed-command-is-carried-out u message calls c (sends .low) (sends .suiting) (sends .suits) (sends .ends) (u .address) source control field (sends .bytes) (sends .short)
+      (sends .idle) (sends .packed)
+      ∙ ap (λ t. delivering (length calls) (cond t (orderedOf (withReceiver u opened) (u .address) source control field laid) (outcome (withReceiver u opened) Elsewhere laid)))
+      (eq-eqb (u .address) (u .address) refl)
+
+  what-a-sent-command-leaves : leftBy u message calls c ≡ answered (withReceiver u opened) (u .address) source control field (cameTo u c control field) laid
+  what-a-sent-command-leaves = ap (λ (f : Fed). f .last) a-sent-command-is-carried-out
+
+  -- Of a command that is done the bytes sent are the packed reply with the reply's data, where poll is set.
+  pub a-command-that-is-done-sends-its-data : polls control ≡ true → (reply : List ℕ) (after : Held) → cameTo u c control field ≡ done reply after
+      → sentBy (leftBy u message calls c) ≡ packedOf (replyMessage 1 (u .address) source control reply)
+  a-command-that-is-done-sends-its-data polled reply after came =
+      ap sentBy (what-a-sent-command-leaves ∙ ap (λ o. answered (withReceiver u opened) (u .address) source control field o laid) came)
+      ∙ what-is-sent-is-the-packed-answer (withReceiver u opened) (u .address) source control field laid polled (done reply after) done-is-no-fault
+
+  pub edac-is-whole : length (c .lent .edac) ≡ edacSize
+  edac-is-whole = a-served-step-fits u (lengthsOf (lentTo message c)) (a-call-that-suits-fits u message c (sends .low) (sends .suits)) .edac-fits
+
+  -- an answer of 1 or 2 is that of a command that is done
+  answered-so : (o : Ending Held) → numberOf (answered (withReceiver u opened) (u .address) source control field o laid .answer) ≤ 2
+      → WasDone (answered (withReceiver u opened) (u .address) source control field o laid) o
+  unfolding answered saidOf saying
+  answered-so (done reply after) low = record { reply = reply; after = after; is = refl; edac = refl; fram = refl }
+  answered-so refused low = absurd (either-way (λ (s : Said). numberOf (s .answer) ≤ 2 → ⊥) (polls control) _ _ (λ _ h. omega arith) (λ _ h. omega arith) low)
+  answered-so unfitted low = absurd (omega arith)
+
+  pub a-command-answered-so-was-done : numberOf (leftBy u message calls c .answer) ≤ 2 → WasDone (leftBy u message calls c) (cameTo u c control field)
+  a-command-answered-so-was-done low =
+      subst (λ o. WasDone o (cameTo u c control field)) (sym what-a-sent-command-leaves)
+      (answered-so (cameTo u c control field) (subst (λ (o : Outcome). numberOf (o .answer) ≤ 2) what-a-sent-command-leaves low))

@@ -1,0 +1,299 @@
+-- Demand 2, on what is stored: a command that reads, sent after one that stored and was done, shows what was stored; and elsewhere what
+-- stood there. Between the two, and by them, anything may be lent but the memory that was stored in. Assumes nothing.
+use mathlib.Core.Path.{_≡_, refl, sym, ap, ap₂, _∙_, subst}
+use mathlib.Core.Bool.{true}
+use mathlib.Core.List.{List, _++_}
+use mathlib.Core.Logic.{_⊎_}
+use Prim.Native.Nat.{ℕ, _+_, _-_, _≤_, _<_}
+use native.Mathlib.Omega.{arith}
+use lib.ListN.{length, drop, getD}
+use Rattle.line.specs.Packing.{packedOf}
+use Rattle.field.specs.Fields.{word16At, word32At, bytes16, bytes32}
+use Rattle.field.proofs.Words.{two-bytes, four-bytes}
+use Rattle.memory.specs.Edac.{edacSize}
+use Rattle.blocks.specs.Fram.{Kept, kept}
+use Rattle.carrying.specs.declared.Mode.{Mode}
+use Rattle.carrying.specs.declared.Mode.the-variants.{Bootloader, Application}
+use Rattle.carrying.specs.Ending.{longestData, Ending, done, refused, unfitted}
+use Rattle.carrying.specs.Held.{Held, held, inside, reading, onEdac, onFram}
+use Rattle.carrying.specs.Storing.{withData, shownAfter}
+use Rattle.carrying.proofs.Storing.{shown-elsewhere}
+use Rattle.fram_commands.specs.Peek.{peekOf}
+use Rattle.fram_commands.specs.Poke.{pokeOf}
+use Rattle.fram_commands.proofs.Storing as fram
+use Rattle.file_commands.specs.ReadFile.{readFileOf}
+use Rattle.file_commands.specs.WriteFile.{listed, filesOf, writeFileOf}
+use Rattle.file_commands.specs.Storing.{filesAfter}
+use Rattle.file_commands.proofs.Storing as files
+use Rattle.edac_commands.specs.ReadEdac.{readEdacOf}
+use Rattle.edac_commands.specs.WriteEdac.{writeEdacOf}
+use Rattle.edac_commands.specs.Gather.{ranges, gatherOf}
+use Rattle.edac_commands.specs.Storing.{rangesAfter}
+use Rattle.edac_commands.proofs.Storing as edac
+use Rattle.command.specs.Command.{commandOf}
+use Rattle.command.proofs.Codes.{in-either-mode, in-application, not-in-bootloader}
+use Rattle.answer.specs.Answers.{numberOf}
+use Rattle.judging.specs.declared.Unit.{Unit}
+use Rattle.replying.specs.Replies.{codeOf, polls, replyMessage}
+use Rattle.unit.specs.World.{World, Outcome, heldOf}
+use Rattle.unit.specs.Steps.{firstOfFram}
+use Rattle.demands.specs.Calls.{Call, Bytes}
+use Rattle.demands.specs.Orders.{Sends, leftBy, sentBy, cameTo, withFram, withEdac, showing}
+use Rattle.demands.proofs.Orders.{each-a-byte, WasDone, a-command-that-is-done-sends-its-data, edac-is-whole, a-command-answered-so-was-done}
+
+-- ---- a part of what is held
+
+-- a command on a part that is done as a whole was done on the part
+record OnThePart {M N : Type 0} (around : M → N) (e : Ending M) (reply : List ℕ) (after : N) : Type 0 where
+  part : M
+  is : e ≡ done reply part
+  whole : around part ≡ after
+
+on-the-part : {M N : Type 0} (around : M → N) (e : Ending M) (reply : List ℕ) (after : N) → inside around e ≡ done reply after → OnThePart around e reply after
+on-the-part around (done bytes part) reply after e = record { part = part; is = ap (λ l. done l part) cc; whole = cc }
+on-the-part around refused reply after e = let z : _≡_ {A = ℕ} 0 1 = cc in absurd (omega arith)
+on-the-part around unfitted reply after e = let z : _≡_ {A = ℕ} 0 1 = cc in absurd (omega arith)
+
+replies-alike : {M : Type 0} {reply reply′ : List ℕ} {after after′ : M} → done reply after ≡ done reply′ after′ → reply ≡ reply′
+replies-alike e = cc
+
+-- a command that reads, with other data
+read-so : (now before : Held) (f : List ℕ → List ℕ) (e : Ending (Prim.Unit {0})) → reading now (withData f e) ≡ showing now f (reading before e)
+read-so now before f (done reply after) = refl
+read-so now before f refused = refl
+read-so now before f unfitted = refl
+
+-- a command of application mode that was done was in application mode
+was-in-application : (room first code : ℕ) (diagnostics : List ℕ) (now : Held) (field reply : List ℕ) (after : Held) → 0x07 ≤ code
+    → commandOf room first code diagnostics now field ≡ done reply after → now .mode ≡ Application
+was-in-application room first code diagnostics now field reply after above came = apart (now .mode) refl
+  where
+    apart : (m : Mode) → now .mode ≡ m → m ≡ Application
+    apart Application e = refl
+    apart Bootloader e =
+        let wrong : refused ≡ done reply after = sym (not-in-bootloader room first code diagnostics now field above e) ∙ came in
+        let z : _≡_ {A = ℕ} 0 1 = cc in
+        absurd (omega arith)
+
+-- ---- POKE and PEEK
+
+-- A POKE of bytes at an address was sent, and answered 1 or 2. Later, a call `d` on a unit `v` lends FRAM as the POKE left it.
+module _ (u : Unit) (message : List ℕ) (source control address : ℕ) (bytes : List ℕ) (calls : List Call) (c : Call)
+    (sends : Sends u message source control (bytes32 address ++ bytes) calls c) (pokes : codeOf control ≡ 0x03)
+    (was-done : numberOf (leftBy u message calls c .answer) ≤ 2) (v : Unit) (d : Call) (its-fram : d .lent .fram ≡ leftBy u message calls c .world .fram) where
+  abbrev known : WasDone (leftBy u message calls c) (cameTo u c control (bytes32 address ++ bytes))
+  known = a-command-answered-so-was-done u message source control (bytes32 address ++ bytes) calls c sends was-done
+
+  abbrev poked : OnThePart (λ memory. held (u .mode) (c .lent .edac) memory)
+      (pokeOf longestData firstOfFram (kept (c .lent .fram) (c .lent .sums)) (bytes32 address ++ bytes)) (known .reply) (known .after)
+  poked =
+      on-the-part (λ memory. held (u .mode) (c .lent .edac) memory)
+      (pokeOf longestData firstOfFram (kept (c .lent .fram) (c .lent .sums)) (bytes32 address ++ bytes)) (known .reply) (known .after)
+      (sym (in-either-mode longestData firstOfFram (codeOf control) (c .lent .diagnostics) (heldOf u (c .lent)) (bytes32 address ++ bytes) 0x03
+      (onFram (heldOf u (c .lent)) (pokeOf longestData firstOfFram (kept (c .lent .fram) (c .lent .sums)) (bytes32 address ++ bytes))) pokes refl)
+      ∙ known .is)
+
+  fram-then : d .lent .fram ≡ poked .part .fram
+  fram-then = its-fram ∙ known .fram ∙ ap (λ (h : Held). h .memory .fram) (sym (poked .whole))
+
+  peeks : (control′ : ℕ) → codeOf control′ ≡ 0x02 → (e : Call) (field : List ℕ)
+      → cameTo v e control′ field ≡ reading (heldOf v (e .lent)) (peekOf longestData firstOfFram (e .lent .fram) field)
+  peeks control′ code e field =
+      in-either-mode longestData firstOfFram (codeOf control′) (e .lent .diagnostics) (heldOf v (e .lent)) field 0x02
+      (reading (heldOf v (e .lent)) (peekOf longestData firstOfFram (e .lent .fram) field)) code refl
+
+  -- Any PEEK comes to what it came to with FRAM as it was before the POKE, with the bytes poked where its range meets theirs.
+  pub a-PEEK-after-a-POKE : address < 4294967296 → (control′ : ℕ) → codeOf control′ ≡ 0x02 → (field : List ℕ)
+      → cameTo v d control′ field
+      ≡ showing (heldOf v (d .lent)) (shownAfter 4 address bytes (word32At field 0)) (cameTo v (withFram d (c .lent .fram)) control′ field)
+  a-PEEK-after-a-POKE small control′ code field =
+      peeks control′ code d field
+      ∙ ap (λ l. reading (heldOf v (d .lent)) (peekOf longestData firstOfFram l field)) fram-then
+      ∙ ap (reading (heldOf v (d .lent)))
+      (fram.a-PEEK-after-a-POKE longestData firstOfFram (kept (c .lent .fram) (c .lent .sums)) (bytes32 address ++ bytes) (known .reply) (poked .part) (poked .is) longestData field
+      ∙ ap (λ (a : ℕ). withData (shownAfter 4 a bytes (word32At field 0)) (peekOf longestData firstOfFram (c .lent .fram) field)) (four-bytes address small))
+      ∙ read-so (heldOf v (d .lent)) (heldOf v (withFram d (c .lent .fram) .lent)) (shownAfter 4 address bytes (word32At field 0))
+      (peekOf longestData firstOfFram (c .lent .fram) field)
+      ∙ ap (showing (heldOf v (d .lent)) (shownAfter 4 address bytes (word32At field 0))) (sym (peeks control′ code (withFram d (c .lent .fram)) field))
+
+  -- A PEEK whose range does not meet theirs shows what stood there.
+  pub a-PEEK-of-another-range : address < 4294967296 → (control′ : ℕ) → codeOf control′ ≡ 0x02 → (field reply : List ℕ) (now : Held)
+      → (word32At field 0 + (length reply - 4) ≤ address) ⊎ (address + length bytes ≤ word32At field 0)
+      → cameTo v (withFram d (c .lent .fram)) control′ field ≡ done reply now → cameTo v d control′ field ≡ done reply (heldOf v (d .lent))
+  a-PEEK-of-another-range small control′ code field reply now apart before =
+      a-PEEK-after-a-POKE small control′ code field
+      ∙ ap (showing (heldOf v (d .lent)) (shownAfter 4 address bytes (word32At field 0))) before
+      ∙ ap (λ l. done l (heldOf v (d .lent))) (shown-elsewhere 4 address bytes (word32At field 0) reply apart)
+
+  few : length bytes < 65536
+  few = omega (arith, sends .short)
+
+  -- A PEEK of the same range is done, and shows the bytes poked.
+  pub what-was-poked-is-peeked : (control′ : ℕ) → codeOf control′ ≡ 0x02
+      → cameTo v d control′ (bytes32 address ++ bytes16 (length bytes)) ≡ done (bytes32 address ++ bytes) (heldOf v (d .lent))
+  what-was-poked-is-peeked control′ code =
+      peeks control′ code d (bytes32 address ++ bytes16 (length bytes))
+      ∙ ap (λ l. reading (heldOf v (d .lent)) (peekOf longestData firstOfFram l (bytes32 address ++ bytes16 (length bytes)))) fram-then
+      ∙ ap (reading (heldOf v (d .lent)))
+      (fram.what-was-poked-is-peeked longestData firstOfFram (kept (c .lent .fram) (c .lent .sums)) address bytes (known .reply) (poked .part) (poked .is) few)
+
+  -- And from bytes on the line to bytes on the line: such a PEEK, sent with poll set, is answered by the packed reply with those bytes.
+  pub what-was-poked-is-sent : (message′ : List ℕ) (source′ control′ : ℕ) (calls′ : List Call)
+      → Sends v message′ source′ control′ (bytes32 address ++ bytes16 (length bytes)) calls′ d → codeOf control′ ≡ 0x02 → polls control′ ≡ true
+      → sentBy (leftBy v message′ calls′ d) ≡ packedOf (replyMessage 1 (v .address) source′ control′ (bytes32 address ++ bytes))
+  what-was-poked-is-sent message′ source′ control′ calls′ asks code polled =
+      a-command-that-is-done-sends-its-data v message′ source′ control′ (bytes32 address ++ bytes16 (length bytes)) calls′ d asks polled (bytes32 address ++ bytes) (heldOf v (d .lent))
+      (what-was-poked-is-peeked control′ code)
+
+-- ---- WRITE EDAC, READ EDAC and GATHER
+
+-- a command on EDAC memory that was sent and answered 1 or 2 was done, and left what is left
+record Wrote (writes : Ending (List ℕ)) (left : List ℕ) : Type 0 where
+  reply : List ℕ
+  is : writes ≡ done reply left
+
+wrote-so : (u : Unit) (message : List ℕ) (source control : ℕ) (field : List ℕ) (calls : List Call) (c : Call) → Sends u message source control field calls c
+    → numberOf (leftBy u message calls c .answer) ≤ 2 → 0x07 ≤ codeOf control → (writes : Ending (List ℕ))
+    → (u .mode ≡ Application → cameTo u c control field ≡ onEdac (heldOf u (c .lent)) writes) → Wrote writes (leftBy u message calls c .world .edac)
+wrote-so u message source control field calls c sends was-done above writes row =
+    let known = a-command-answered-so-was-done u message source control field calls c sends was-done in
+    let mode = was-in-application longestData firstOfFram (codeOf control) (c .lent .diagnostics) (heldOf u (c .lent)) field (known .reply) (known .after) above (known .is) in
+    let there = on-the-part (λ l. held (u .mode) l (kept (c .lent .fram) (c .lent .sums))) writes (known .reply) (known .after) (sym (row mode) ∙ known .is) in
+    record { reply = known .reply; is = there .is ∙ ap (λ l. done (known .reply) l) (ap (λ (h : Held). h .edac) (there .whole) ∙ sym (known .edac)) }
+
+-- A WRITE EDAC of bytes at an address was sent, and answered 1 or 2. Later, a call `d` on a unit `v` in application mode lends EDAC
+-- memory as it was left.
+module _ (u : Unit) (message : List ℕ) (source control address : ℕ) (bytes : List ℕ) (calls : List Call) (c : Call)
+    (sends : Sends u message source control (bytes16 address ++ bytes) calls c) (code : codeOf control ≡ 0x0A)
+    (was-done : numberOf (leftBy u message calls c .answer) ≤ 2) (v : Unit) (mode : v .mode ≡ Application) (d : Call)
+    (its-edac : d .lent .edac ≡ leftBy u message calls c .world .edac) where
+  abbrev field : List ℕ
+  field = bytes16 address ++ bytes
+
+  abbrev left : List ℕ
+  left = leftBy u message calls c .world .edac
+
+  abbrev wrote : Wrote (writeEdacOf longestData (c .lent .edac) field) left
+  wrote =
+      wrote-so u message source control field calls c sends was-done (omega (arith, code)) (writeEdacOf longestData (c .lent .edac) field)
+      (λ application. in-application longestData firstOfFram (codeOf control) (c .lent .diagnostics) (heldOf u (c .lent)) field 0x0A
+      (onEdac (heldOf u (c .lent)) (writeEdacOf longestData (c .lent .edac) field)) code application refl)
+
+  whole : length (c .lent .edac) ≡ edacSize
+  whole = edac-is-whole u message source control field calls c sends
+
+  reads : (control′ : ℕ) → codeOf control′ ≡ 0x09 → (e : Call) (asked : List ℕ)
+      → cameTo v e control′ asked ≡ reading (heldOf v (e .lent)) (readEdacOf longestData (e .lent .edac) asked)
+  reads control′ is e asked =
+      in-application longestData firstOfFram (codeOf control′) (e .lent .diagnostics) (heldOf v (e .lent)) asked 0x09
+      (reading (heldOf v (e .lent)) (readEdacOf longestData (e .lent .edac) asked)) is mode refl
+
+  gathers : (control′ : ℕ) → codeOf control′ ≡ 0x0B → (e : Call) (asked : List ℕ)
+      → cameTo v e control′ asked ≡ reading (heldOf v (e .lent)) (gatherOf longestData (e .lent .edac) asked)
+  gathers control′ is e asked =
+      in-application longestData firstOfFram (codeOf control′) (e .lent .diagnostics) (heldOf v (e .lent)) asked 0x0B
+      (reading (heldOf v (e .lent)) (gatherOf longestData (e .lent .edac) asked)) is mode refl
+
+  -- Any READ EDAC comes to what it came to before the WRITE EDAC, with the bytes written where its range meets theirs.
+  pub a-READ-EDAC-after-a-WRITE-EDAC : address < 65536 → (control′ : ℕ) → codeOf control′ ≡ 0x09 → (asked : List ℕ)
+      → cameTo v d control′ asked
+      ≡ showing (heldOf v (d .lent)) (shownAfter 2 address bytes (word16At asked 0)) (cameTo v (withEdac d (c .lent .edac)) control′ asked)
+  a-READ-EDAC-after-a-WRITE-EDAC small control′ is asked =
+      reads control′ is d asked
+      ∙ ap (λ l. reading (heldOf v (d .lent)) (readEdacOf longestData l asked)) its-edac
+      ∙ ap (reading (heldOf v (d .lent)))
+      (edac.a-READ-EDAC-after-a-WRITE-EDAC longestData (c .lent .edac) field (wrote .reply) left whole (wrote .is) longestData asked
+      ∙ ap (λ (a : ℕ). withData (shownAfter 2 a bytes (word16At asked 0)) (readEdacOf longestData (c .lent .edac) asked)) (two-bytes address small))
+      ∙ read-so (heldOf v (d .lent)) (heldOf v (withEdac d (c .lent .edac) .lent)) (shownAfter 2 address bytes (word16At asked 0)) (readEdacOf longestData (c .lent .edac) asked)
+      ∙ ap (showing (heldOf v (d .lent)) (shownAfter 2 address bytes (word16At asked 0))) (sym (reads control′ is (withEdac d (c .lent .edac)) asked))
+
+  -- A READ EDAC whose range does not meet theirs shows what stood there.
+  pub a-READ-EDAC-of-another-range : address < 65536 → (control′ : ℕ) → codeOf control′ ≡ 0x09 → (asked reply : List ℕ) (now : Held)
+      → (word16At asked 0 + (length reply - 2) ≤ address) ⊎ (address + length bytes ≤ word16At asked 0)
+      → cameTo v (withEdac d (c .lent .edac)) control′ asked ≡ done reply now → cameTo v d control′ asked ≡ done reply (heldOf v (d .lent))
+  a-READ-EDAC-of-another-range small control′ is asked reply now apart before =
+      a-READ-EDAC-after-a-WRITE-EDAC small control′ is asked
+      ∙ ap (showing (heldOf v (d .lent)) (shownAfter 2 address bytes (word16At asked 0))) before
+      ∙ ap (λ l. done l (heldOf v (d .lent))) (shown-elsewhere 2 address bytes (word16At asked 0) reply apart)
+
+  -- Any GATHER comes to what it came to before, with the bytes written where one of its ranges meets theirs.
+  pub a-GATHER-after-a-WRITE-EDAC : address < 65536 → (control′ : ℕ) → codeOf control′ ≡ 0x0B → (asked : List ℕ)
+      → cameTo v d control′ asked
+      ≡ showing (heldOf v (d .lent)) (λ _. rangesAfter address bytes (c .lent .edac) (ranges asked)) (cameTo v (withEdac d (c .lent .edac)) control′ asked)
+  a-GATHER-after-a-WRITE-EDAC small control′ is asked =
+      gathers control′ is d asked
+      ∙ ap (λ l. reading (heldOf v (d .lent)) (gatherOf longestData l asked)) its-edac
+      ∙ ap (reading (heldOf v (d .lent)))
+      (edac.a-GATHER-after-a-WRITE-EDAC longestData (c .lent .edac) field (wrote .reply) left whole (wrote .is) longestData asked
+      ∙ ap (λ (a : ℕ). withData (λ _. rangesAfter a bytes (c .lent .edac) (ranges asked)) (gatherOf longestData (c .lent .edac) asked)) (two-bytes address small))
+      ∙ read-so (heldOf v (d .lent)) (heldOf v (withEdac d (c .lent .edac) .lent)) (λ _. rangesAfter address bytes (c .lent .edac) (ranges asked)) (gatherOf longestData (c .lent .edac) asked)
+      ∙ ap (showing (heldOf v (d .lent)) (λ _. rangesAfter address bytes (c .lent .edac) (ranges asked))) (sym (gathers control′ is (withEdac d (c .lent .edac)) asked))
+
+  -- A READ EDAC of the same range is done, and shows the bytes written; a GATHER of it too, of up to 1,024 bytes.
+  pub what-was-written-is-read : (control′ : ℕ) → codeOf control′ ≡ 0x09
+      → cameTo v d control′ (bytes16 address ++ bytes16 (length bytes)) ≡ done (bytes16 address ++ bytes) (heldOf v (d .lent))
+  what-was-written-is-read control′ is =
+      reads control′ is d (bytes16 address ++ bytes16 (length bytes))
+      ∙ ap (λ l. reading (heldOf v (d .lent)) (readEdacOf longestData l (bytes16 address ++ bytes16 (length bytes)))) its-edac
+      ∙ ap (reading (heldOf v (d .lent))) (edac.what-was-written-is-read longestData (c .lent .edac) address bytes (wrote .reply) left whole (wrote .is))
+
+  pub what-was-written-is-gathered : length bytes ≤ 1024 → (control′ : ℕ) → codeOf control′ ≡ 0x0B
+      → cameTo v d control′ (bytes16 address ++ bytes16 (length bytes)) ≡ done ((bytes16 address ++ bytes16 (length bytes)) ++ bytes) (heldOf v (d .lent))
+  what-was-written-is-gathered roomy control′ is =
+      gathers control′ is d (bytes16 address ++ bytes16 (length bytes))
+      ∙ ap (λ l. reading (heldOf v (d .lent)) (gatherOf longestData l (bytes16 address ++ bytes16 (length bytes)))) its-edac
+      ∙ ap (reading (heldOf v (d .lent))) (edac.what-was-written-is-gathered longestData (c .lent .edac) address bytes (wrote .reply) left whole (wrote .is) (omega arith))
+
+  -- From bytes on the line to bytes on the line.
+  pub what-was-written-is-sent : (message′ : List ℕ) (source′ control′ : ℕ) (calls′ : List Call)
+      → Sends v message′ source′ control′ (bytes16 address ++ bytes16 (length bytes)) calls′ d → codeOf control′ ≡ 0x09 → polls control′ ≡ true
+      → sentBy (leftBy v message′ calls′ d) ≡ packedOf (replyMessage 1 (v .address) source′ control′ (bytes16 address ++ bytes))
+  what-was-written-is-sent message′ source′ control′ calls′ asks is polled =
+      a-command-that-is-done-sends-its-data v message′ source′ control′ (bytes16 address ++ bytes16 (length bytes)) calls′ d asks polled (bytes16 address ++ bytes) (heldOf v (d .lent))
+      (what-was-written-is-read control′ is)
+
+-- ---- WRITE FILE and READ FILE
+
+-- A WRITE FILE of a list was sent, and answered 1 or 2. Later, a call `d` on a unit `v` in application mode lends EDAC memory as it was
+-- left.
+module _ (u : Unit) (message : List ℕ) (source control : ℕ) (list : List ℕ) (calls : List Call) (c : Call) (sends : Sends u message source control list calls c)
+    (code : codeOf control ≡ 0x08) (was-done : numberOf (leftBy u message calls c .answer) ≤ 2) (v : Unit) (mode : v .mode ≡ Application) (d : Call)
+    (its-edac : d .lent .edac ≡ leftBy u message calls c .world .edac) where
+  abbrev filed : Wrote (writeFileOf longestData (c .lent .edac) list) (leftBy u message calls c .world .edac)
+  filed =
+      wrote-so u message source control list calls c sends was-done (omega (arith, code)) (writeFileOf longestData (c .lent .edac) list)
+      (λ application. in-application longestData firstOfFram (codeOf control) (c .lent .diagnostics) (heldOf u (c .lent)) list 0x08
+      (onEdac (heldOf u (c .lent)) (writeFileOf longestData (c .lent .edac) list)) code application refl)
+
+  reads-files : (control′ : ℕ) → codeOf control′ ≡ 0x07 → (e : Call) (asked : List ℕ)
+      → cameTo v e control′ asked ≡ reading (heldOf v (e .lent)) (readFileOf longestData (e .lent .edac) asked)
+  reads-files control′ is e asked =
+      in-application longestData firstOfFram (codeOf control′) (e .lent .diagnostics) (heldOf v (e .lent)) asked 0x07
+      (reading (heldOf v (e .lent)) (readFileOf longestData (e .lent .edac) asked)) is mode refl
+
+  -- Any READ FILE comes to what it came to before the WRITE FILE, with the body that was written last for each file that was written.
+  pub a-READ-FILE-after-a-WRITE-FILE : (control′ : ℕ) → codeOf control′ ≡ 0x07 → (asked : List ℕ) → Bytes asked
+      → cameTo v d control′ asked
+      ≡ showing (heldOf v (d .lent)) (λ _. filesAfter (listed list) (c .lent .edac) asked) (cameTo v (withEdac d (c .lent .edac)) control′ asked)
+  a-READ-FILE-after-a-WRITE-FILE control′ is asked small =
+      reads-files control′ is d asked
+      ∙ ap (λ l. reading (heldOf v (d .lent)) (readFileOf longestData l asked)) its-edac
+      ∙ ap (reading (heldOf v (d .lent)))
+      (files.a-READ-FILE-after-a-WRITE-FILE longestData (c .lent .edac) list (filed .reply) (leftBy u message calls c .world .edac) (edac-is-whole u message source control list calls c sends)
+      (each-a-byte list (sends .bytes .1 .1 .1)) (filed .is) longestData asked (each-a-byte asked small))
+      ∙ read-so (heldOf v (d .lent)) (heldOf v (withEdac d (c .lent .edac) .lent)) (λ _. filesAfter (listed list) (c .lent .edac) asked) (readFileOf longestData (c .lent .edac) asked)
+      ∙ ap (showing (heldOf v (d .lent)) (λ _. filesAfter (listed list) (c .lent .edac) asked)) (sym (reads-files control′ is (withEdac d (c .lent .edac)) asked))
+
+  -- A READ FILE of the files that were written is done, and answers what the WRITE FILE answered.
+  pub files-that-were-written-are-read : (reply : List ℕ) (after : Held) → cameTo u c control list ≡ done reply after → (control′ : ℕ) → codeOf control′ ≡ 0x07
+      → cameTo v d control′ (filesOf (listed list)) ≡ done reply (heldOf v (d .lent))
+  unfolding wrote-so
+  files-that-were-written-are-read reply after came control′ is =
+      let known = a-command-answered-so-was-done u message source control list calls c sends was-done in
+      let same : known .reply ≡ reply = replies-alike (sym (known .is) ∙ came) in
+      reads-files control′ is d (filesOf (listed list))
+      ∙ ap (λ l. reading (heldOf v (d .lent)) (readFileOf longestData l (filesOf (listed list)))) its-edac
+      ∙ ap (reading (heldOf v (d .lent)))
+      (files.what-was-written-is-read-back longestData (c .lent .edac) list (filed .reply) (leftBy u message calls c .world .edac) (edac-is-whole u message source control list calls c sends)
+      (each-a-byte list (sends .bytes .1 .1 .1)) (filed .is))
+      ∙ ap (λ l. done l (heldOf v (d .lent))) same

@@ -1,0 +1,59 @@
+-- A command that is sent to a unit, and what it comes to. Assumes nothing.
+use Prim.Native.Nat.{ℕ, _≤_}
+use mathlib.Core.Path.{_≡_}
+use mathlib.Core.List.{List, _∷_, _++_}
+use lib.ListN.{length, take, drop}
+use Rattle.line.specs.Framing.{fend}
+use Rattle.line.specs.Packing.{bodyOf}
+use Rattle.carrying.specs.Ending.{longestData, Ending}
+use Rattle.carrying.specs.Held.{Held, inside}
+use Rattle.carrying.specs.Storing.{withData}
+use Rattle.command.specs.Command.{commandOf}
+use Rattle.answer.specs.Answers.{sentOf}
+use Rattle.judging.specs.declared.Unit.{Unit}
+use Rattle.judging.specs.Fitting.{largestCount}
+use Rattle.replying.specs.Replies.{codeOf, sealed}
+use Rattle.unit.specs.World.{World, world, Outcome, heldOf}
+use Rattle.unit.specs.Steps.{firstOfFram}
+use Rattle.demands.specs.Calls.{Call, lentTo, fedOf, bytesOf, Suits, AllSuit, Idle, Bytes}
+
+-- A command for this unit: sealed with its CRC, packed, and sent with both its FENDs, the last of them by the call `c`, to a unit that
+-- has nothing open, by calls that are served.
+pub record Sends (u : Unit) (message : List ℕ) (source control : ℕ) (field : List ℕ) (calls : List Call) (c : Call) : Type 0 where
+  pub low : u .receiver .count ≤ largestCount
+  pub idle : Idle (u .receiver)
+  pub bytes : Bytes (u .address ∷ source ∷ control ∷ field)
+  pub short : length field ≤ longestData
+  pub packed : bytesOf calls ≡ fend ∷ bodyOf (sealed (u .address ∷ source ∷ control ∷ field))
+  pub ends : c .byte ≡ fend
+  pub suiting : AllSuit (u .address) (u .«fram_len») (length message) calls
+  pub suits : Suits (u .address) (u .«fram_len») (length message) c
+
+-- What the last of these calls lends, with the command in the message buffer.
+abbrev pub withItsMessage : Unit → List ℕ → ℕ → ℕ → List ℕ → Call → World
+withItsMessage u message source control field c =
+    let sent = sealed (u .address ∷ source ∷ control ∷ field) in lentTo (sent ++ drop (length sent) message) c
+
+-- What it leaves, and the bytes that are then sent.
+abbrev pub leftBy : Unit → List ℕ → List Call → Call → Outcome
+leftBy u message calls c = fedOf u message calls c .last
+
+abbrev pub sentBy : Outcome → List ℕ
+sentBy o = take (sentOf (o .answer)) (o .world .reply)
+
+-- What a command comes to on what a call lends.
+abbrev pub cameTo : Unit → Call → ℕ → List ℕ → Ending Held
+cameTo u c control field = commandOf longestData firstOfFram (codeOf control) (c .lent .diagnostics) (heldOf u (c .lent)) field
+
+-- The call with another FRAM, or another EDAC memory, in place of the one that it names.
+abbrev pub withFram : Call → List ℕ → Call
+withFram c fram =
+    record { byte = c .byte; lent = world (c .lent .edac) fram (c .lent .sums) (c .lent .diagnostics) (c .lent .message) (c .lent .reply) }
+
+abbrev pub withEdac : Call → List ℕ → Call
+withEdac c edac =
+    record { byte = c .byte; lent = world edac (c .lent .fram) (c .lent .sums) (c .lent .diagnostics) (c .lent .message) (c .lent .reply) }
+
+-- The ending of a command that changes nothing of what is held, with other data in its reply.
+abbrev pub showing : Held → (List ℕ → List ℕ) → Ending Held → Ending Held
+showing now f ending = inside (λ _. now) (withData f ending)
