@@ -1,0 +1,267 @@
+-- The demands, from C: whoever calls `wheel_set_up` and `wheel_step` and hands the record on from call to call has them as they stand here.
+-- Assumes nothing.
+use mathlib.Core.Path.{_≡_, refl, sym, ap, ap₂, _∙_, subst}
+use mathlib.Core.Bool.{true}
+use mathlib.Core.List.{List, [], _∷_, _++_, map}
+use Prim.Native.Nat.{ℕ, zero, suc, _+_, _-_, _≤_}
+use native.Mathlib.Omega.{arith}
+use lib.ListN.{length, take, drop, getD, replicate, length-append}
+use lib.Seq.{take-append-seam, getD-append-seam}
+use Rattle.crc.specs.Sum.{sumOf}
+use Rattle.line.specs.Framing.{fend}
+use Rattle.line.specs.Packing.{bodyOf, packedOf, shortestMessage, messageSize, replySize, Packing, packOf}
+use Rattle.line.specs.Receiver.{opened}
+use Rattle.line.proofs.Laying.{a-short-reply-buffer-is-refused, a-short-message-is-refused, a-long-message-is-refused, a-message-of-legal-length-is-packed}
+use Rattle.field.specs.Fields.{bytes16, bytes32}
+use Rattle.memory.specs.Bytes.{stretch, begun}
+use Rattle.memory.proofs.Tests.{either-side}
+use Rattle.blocks.specs.Fram.{Kept, kept, freshSums}
+use Rattle.carrying.specs.Ending.{done}
+use Rattle.carrying.specs.Held.{Held}
+use Rattle.answer.specs.Answers.{numberOf, sentOf}
+use Rattle.answer.specs.declared.Answer.the-variants.{Taken}
+use Rattle.judging.specs.declared.Unit.{Unit}
+use Rattle.judging.specs.declared.fitting.Fit.{Fit}
+use Rattle.judging.specs.declared.fitting.Fit.the-variants.{Fits, Unfit}
+use Rattle.judging.specs.Fitting.{largestCount, setUpFit}
+use Rattle.judging.specs.Judging.{withReceiver}
+use Rattle.replying.specs.Replies.{codeOf, polls, replyMessage}
+use Rattle.unit.specs.World.{World, lengthsOf, Outcome, withMessage, withSums}
+use Rattle.unit.specs.Steps.{nobody, somebody, firstOfFram, setUpAs, setUpOf, answered, stepOf}
+use Rattle.board.specs.declared.WheelUnit.{WheelUnit}
+use Rattle.board.specs.declared.WheelStepped.{WheelStepped}
+use Rattle.board.specs.declared.WheelPacked.{WheelPacked}
+use Rattle.board.specs.Records.{modeOut, unitIn, unitOut, Returned, returned, returnedBy}
+use Rattle.board.proofs.Settled.{a-record-comes-back}
+use Rattle.demands.specs.Calls.{Fed, lentTo, fedOf, bytesOf, delivering, Suits, AllSuit, Idle, Lending, its-memory, Own, own, ownOf, withMemory, calledOf, Right, Inside}
+use Rattle.demands.specs.Leaving.{countsAfter}
+use Rattle.demands.specs.Orders.{Sends, withItsMessage, leftBy, sentBy, cameTo}
+use Rattle.demands.proofs.Cases.{a-refused-set-up-has-its-number}
+use Rattle.demands.proofs.DemandOne.{what-every-answer-leaves, what-set-up-leaves}
+use Rattle.demands.proofs.DemandTwo.{a-packed-message-stands-in-the-buffer}
+use Rattle.demands.proofs.Orders.{a-sent-command-is-carried-out, a-command-that-is-done-sends-its-data}
+use Rattle.demands.proofs.DemandThree.{after-any-calls-the-sums-are-right, the-CRC-sent-is-fresh}
+use Rattle.c_demands.specs.FromC.{FromC, Steps, SetsUp, callOf, callsOf, LeavesInC, OnTheLine, Packs, bytesFromC, toBeSent, numbersOf, Follow, lastUnit, lastMemory}
+
+-- ---- lists
+
+-- two lists with one more byte at their ends
+last-apart : (xs ys : List ℕ) (x y : ℕ) → xs ++ (x ∷ []) ≡ ys ++ (y ∷ []) → (xs ≡ ys) × (x ≡ y)
+last-apart xs ys x y e =
+    let more : length xs + 1 ≡ length ys + 1 = sym (length-append xs (x ∷ [])) ∙ ap length e ∙ length-append ys (y ∷ []) in
+    let same : length xs ≡ length ys = omega arith in (
+      sym (take-append-seam xs (x ∷ [])) ∙ ap₂ (λ (n : ℕ) l. take n l) same e ∙ take-append-seam ys (y ∷ []),
+      sym (getD-append-seam xs x [] 0) ∙ ap₂ (λ (n : ℕ) l. getD l n 0) same e ∙ getD-append-seam ys y [] 0,
+    )
+
+-- packing that answers 0 had room, and a message of legal length
+packed-so : (m before : List ℕ) → packOf m before .answer ≡ 0 → (replySize ≤ length before) × (shortestMessage ≤ length m) × (length m ≤ messageSize)
+packed-so m before none =
+    either-side replySize (length before)
+    (λ roomy. either-side shortestMessage (length m)
+    (λ enough. either-side (length m) messageSize (λ fits. (roomy, enough, fits))
+    (λ long. let n = ap (λ (p : Packing). p .answer) (a-long-message-is-refused m before roomy enough long) in absurd (omega (arith, none, n))))
+    (λ short. let n = ap (λ (p : Packing). p .answer) (a-short-message-is-refused m before roomy short) in absurd (omega (arith, none, n))))
+    (λ narrow. let n = ap (λ (p : Packing). p .answer) (a-short-reply-buffer-is-refused m before narrow) in absurd (omega (arith, none, n)))
+
+-- ---- what came back, part by part
+
+module _ (u : WheelUnit) (c : FromC) (steps : Steps u c) where
+  abbrev o : Outcome
+  o = stepOf (unitIn u) (c .byte) (c .lent)
+
+  left : c .left ≡ o .world
+  left = ap (λ (r : Returned). r .world) steps
+
+  back : c .back .unit ≡ unitOut (o .unit)
+  back = ap (λ (r : Returned). r .stepped .unit) steps
+
+  number : c .back .answer ≡ numberOf (o .answer)
+  number = ap (λ (r : Returned). r .stepped .answer) steps
+
+  size : c .back .sent ≡ sentOf (o .answer)
+  size = ap (λ (r : Returned). r .stepped .sent) steps
+
+  next : unitIn (c .back .unit) ≡ o .unit
+  next = ap unitIn back ∙ a-record-comes-back (o .unit)
+
+  -- Demand 1. For any record, byte and lent buffers of any length.
+  pub what-every-call-from-C-leaves : LeavesInC u c
+  what-every-call-from-C-leaves =
+      let leaves = what-every-answer-leaves (unitIn u) (c .byte) (c .lent) in
+      record {
+        nothing-by-a-refused-call = λ high.
+            let both = leaves .nothing-by-a-refused-call (omega (arith, number)) in (back ∙ ap unitOut (both .0), left ∙ both .1);
+        memory-unless-a-command-is-done = λ one two.
+            let all = leaves .memory-unless-a-command-is-done (λ e. one (number ∙ e)) (λ e. two (number ∙ e)) in (
+              ap (λ (w : World). w .edac) left ∙ all .0,
+              ap (λ (w : World). w .fram) left ∙ all .1,
+              ap (λ (w : World). w .sums) left ∙ all .2,
+              ap (λ (r : WheelUnit). r .mode) back ∙ ap modeOut (all .3),
+            );
+        counts = ap (λ (w : World). w .diagnostics) left ∙ leaves .counts ∙ ap (λ (n : ℕ). countsAfter n (c .lent .diagnostics)) (sym number);
+        reply =
+            ap (λ (w : World). w .reply) left ∙ leaves .reply
+            ∙ sym (ap₂ (λ (n : ℕ) (w : World). begun (c .lent .reply) (take n (w .reply))) size left);
+        address = ap (λ (r : WheelUnit). r .address) back ∙ leaves .address;
+        fram-length = ap (λ (r : WheelUnit). r .«fram_len») back ∙ leaves .fram-length;
+      }
+
+-- ---- demand 2
+
+-- some calls on the line, and one more, leave what demands says of them: the numbers of the answers, and all that the last one gives back
+-- and leaves
+the-line-from-C : (u : WheelUnit) (message : List ℕ) (calls : List FromC) (c : FromC) → OnTheLine u message calls c
+    → (numbersOf calls ≡ map numberOf (fedOf (unitIn u) message (callsOf calls) (callOf c) .answers))
+    × (returned (c .back) (c .left) ≡ returnedBy (fedOf (unitIn u) message (callsOf calls) (callOf c) .last))
+the-line-from-C u message [] c on = (refl, on .1 ∙ ap (λ l. returnedBy (stepOf (unitIn u) (c .byte) (withMessage (c .lent) l))) (on .0))
+the-line-from-C u message (d ∷ calls) c on =
+    let lent : stepOf (unitIn u) (d .byte) (d .lent) ≡ stepOf (unitIn u) (d .byte) (lentTo message (callOf d))
+    = ap (λ l. stepOf (unitIn u) (d .byte) (withMessage (d .lent) l)) (on .0) in
+    let rest = the-line-from-C (d .back .unit) (d .left .message) calls c (on .2) in
+    let same : fedOf (unitIn (d .back .unit)) (d .left .message) (callsOf calls) (callOf c)
+    ≡ fedOf (stepOf (unitIn u) (d .byte) (lentTo message (callOf d)) .unit) (stepOf (unitIn u) (d .byte) (lentTo message (callOf d)) .world .message) (callsOf calls) (callOf c)
+    = ap₂ (λ (v : Unit) (l : List ℕ). fedOf v l (callsOf calls) (callOf c))
+    (next u d (on .1) ∙ ap (λ (x : Outcome). x .unit) lent) (ap (λ (w : World). w .message) (left u d (on .1) ∙ ap (λ (x : Outcome). x .world) lent)) in (
+      ap₂ (λ (n : ℕ) l. n ∷ l) (number u d (on .1) ∙ ap (λ (x : Outcome). numberOf (x .answer)) lent) (rest .0 ∙ ap (λ (f : Fed). map numberOf (f .answers)) same),
+      rest .1 ∙ ap (λ (f : Fed). returnedBy (f .last)) same,
+    )
+
+all-zero : (n : ℕ) → map numberOf (replicate n Taken) ≡ replicate n 0
+all-zero zero = refl
+all-zero (suc n) = ap (λ l. 0 ∷ l) (all-zero n)
+
+as-many : (calls : List FromC) → length (callsOf calls) ≡ length calls
+as-many [] = refl
+as-many (c ∷ calls) = ap suc (as-many calls)
+
+module _ (u : WheelUnit) (message : List ℕ) (calls : List FromC) (c : FromC) (on : OnTheLine u message calls c) where
+  -- a delivery, from C
+  delivered : (x : Outcome) → fedOf (unitIn u) message (callsOf calls) (callOf c) ≡ delivering (length (callsOf calls)) x
+      → (numbersOf calls ≡ replicate (length calls) 0) × (returned (c .back) (c .left) ≡ returnedBy x)
+  delivered x e =
+      let both = the-line-from-C u message calls c on in (
+        both .0 ∙ ap (λ (f : Fed). map numberOf (f .answers)) e ∙ all-zero (length (callsOf calls)) ∙ ap (λ (n : ℕ). replicate n 0) (as-many calls),
+        both .1 ∙ ap (λ (f : Fed). returnedBy (f .last)) e,
+      )
+
+  -- Demand 2. A command for the unit, sealed and packed, is given to `wheel_step` byte by byte, the record and the message buffer going
+  -- from call to call. All calls answer 0 but the last, which gives back and leaves what the command comes to, answered.
+  module _ (source control : ℕ) (field : List ℕ) (sends : Sends (unitIn u) message source control field (callsOf calls) (callOf c)) where
+    pub a-command-from-C-is-carried-out : (numbersOf calls ≡ replicate (length calls) 0)
+        × (returned (c .back) (c .left)
+        ≡ returnedBy
+        (answered (withReceiver (unitIn u) opened) (u .address) source control field (cameTo (unitIn u) (callOf c) control field)
+        (withItsMessage (unitIn u) message source control field (callOf c))))
+    a-command-from-C-is-carried-out = delivered _ (a-sent-command-is-carried-out (unitIn u) message source control field (callsOf calls) (callOf c) sends)
+
+    -- If it is done, and poll is set, then the bytes to be sent are the packed reply with the data that the command came to.
+    pub a-command-from-C-is-answered : polls control ≡ true → (reply : List ℕ) (after : Held) → cameTo (unitIn u) (callOf c) control field ≡ done reply after
+        → toBeSent c ≡ packedOf (replyMessage 1 (u .address) source control reply)
+    a-command-from-C-is-answered polled reply after came =
+        ap (λ (r : Returned). take (r .stepped .sent) (r .world .reply)) (the-line-from-C u message calls c on .1)
+        ∙ a-command-that-is-done-sends-its-data (unitIn u) message source control field (callsOf calls) (callOf c) sends polled reply after came
+
+  -- The round trip. What `wheel_pack` packs, given so to a unit that has nothing open, by calls that are served, stands in the message buffer
+  -- byte for byte when the last byte has come, whether the unit takes it for sound or not.
+  pub what-is-packed-from-C-is-received-back : (m before : List ℕ) (said : WheelPacked) (packed : List ℕ) → Packs m before said packed → said .answer ≡ 0
+      → bytesFromC calls c ≡ take (said .sent) packed → u .count ≤ largestCount → Idle (unitIn u .receiver)
+      → AllSuit (u .address) (u .«fram_len») (length message) (callsOf calls) → Suits (u .address) (u .«fram_len») (length message) (callOf c)
+      → c .left .message ≡ m ++ drop (length m) message
+  what-is-packed-from-C-is-received-back m before said packed packs none bytes low idle all last =
+      let legal = packed-so m before (sym (ap (λ (p : Packing). p .answer) packs) ∙ none) in
+      let written : take (said .sent) packed ≡ packedOf m
+      = ap (λ (p : Packing). take (p .sent) (p .reply)) (packs ∙ a-message-of-legal-length-is-packed m before (legal .0) (legal .1) (legal .2))
+      ∙ take-append-seam (packedOf m) (drop (length (packedOf m)) before) in
+      let split = last-apart (bytesOf (callsOf calls)) (fend ∷ bodyOf m) (c .byte) fend (bytes ∙ written) in
+      let few = legal .1 in
+      ap (λ (r : Returned). r .world .message) (the-line-from-C u message calls c on .1)
+      ∙ a-packed-message-stands-in-the-buffer (unitIn u) message (callsOf calls) (callOf c) low all last (split .1) m (omega arith) (legal .2) idle (split .0)
+
+-- ---- demand 3
+
+asLending : List FromC → List Lending
+asLending [] = []
+asLending (c ∷ calls) = its-memory (callOf c) ∷ asLending calls
+
+-- the record and the memory that calls from C leave are those that demands speaks of
+calls-from-C : (calls : List FromC) (u : WheelUnit) (memory : Kept) → Follow u memory calls
+    → own (unitIn (lastUnit u calls)) (lastMemory memory calls) ≡ calledOf (own (unitIn u) memory) (asLending calls)
+unfolding asLending
+calls-from-C [] u memory follow = refl
+calls-from-C (c ∷ calls) u memory follow =
+    let lent : stepOf (unitIn u) (c .byte) (c .lent) ≡ stepOf (unitIn u) (c .byte) (withMemory (c .lent) memory)
+    = ap (λ (k : Kept). stepOf (unitIn u) (c .byte) (withMemory (c .lent) k)) (follow .0) in
+    calls-from-C calls (c .back .unit) (kept (c .left .fram) (c .left .sums)) (follow .2)
+    ∙ ap₂ (λ (v : Unit) (w : World). calledOf (own v (kept (w .fram) (w .sums))) (asLending calls))
+    (next u c (follow .1) ∙ ap (λ (x : Outcome). x .unit) lent) (left u c (follow .1) ∙ ap (λ (x : Outcome). x .world) lent)
+
+-- a set-up that answers 0 is not refused
+set-up-so : (address : ℕ) (w : World) → numberOf (setUpOf address w .answer) ≡ 0 → setUpFit address (lengthsOf w) ≡ Fits
+unfolding setUpOf
+set-up-so address w none = apart (setUpFit address (lengthsOf w)) refl none
+  where
+    apart : (f : Fit) → setUpFit address (lengthsOf w) ≡ f → numberOf (setUpAs f address w .answer) ≡ 0 → f ≡ Fits
+    apart Fits e z = refl
+    apart (Unfit answer) e z = absurd (omega (arith, a-refused-set-up-has-its-number address (lengthsOf w) answer e .0))
+
+-- Demand 1, of `wheel_set_up`: 0 computes all sums and changes nothing else that is lent; 20 to 25 change nothing at all.
+pub what-a-set-up-from-C-leaves : (address : ℕ) (lent : World) (back : WheelStepped) (after : World) → SetsUp address lent back after
+    → (back .answer ≡ 0 → (back .unit ≡ unitOut (somebody address lent)) × (after ≡ withSums lent (freshSums (lent .fram))))
+    × ((back .answer ≡ 0 → ⊥) → (20 ≤ back .answer) × (back .answer ≤ 25) × (back .unit ≡ unitOut nobody) × (after ≡ lent))
+what-a-set-up-from-C-leaves address lent back after sets-up =
+    let leaves = what-set-up-leaves address lent in
+    let number : back .answer ≡ numberOf (setUpOf address lent .answer) = ap (λ (r : Returned). r .stepped .answer) sets-up in
+    let unit : back .unit ≡ unitOut (setUpOf address lent .unit) = ap (λ (r : Returned). r .stepped .unit) sets-up in
+    let left : after ≡ setUpOf address lent .world = ap (λ (r : Returned). r .world) sets-up in (
+      (λ none. let both = leaves .set-up (sym number ∙ none) in (unit ∙ ap unitOut (both .0), left ∙ both .1)),
+      (λ other.
+          let all = leaves .refused (λ none. other (number ∙ none)) in
+          let low = all .0 in
+          let high = all .1 in
+          (omega arith, omega arith, unit ∙ ap unitOut (all .2), left ∙ all .3)),
+    )
+
+-- `wheel_set_up` answered 0. After any calls of `wheel_step`, each with the record that the one before gave back, and with FRAM and sums
+-- that nobody else altered:
+module _ (address : ℕ) (lent : World) (back : WheelStepped) (after : World) (sets-up : SetsUp address lent back after) (served : back .answer ≡ 0)
+    (calls : List FromC) (follow : Follow (back .unit) (kept (after .fram) (after .sums)) calls) where
+  abbrev memory : Kept
+  memory = lastMemory (kept (after .fram) (after .sums)) calls
+
+  abbrev record-now : WheelUnit
+  record-now = lastUnit (back .unit) calls
+
+  fits : setUpFit address (lengthsOf lent) ≡ Fits
+  fits = set-up-so address lent (sym (ap (λ (r : Returned). r .stepped .answer) sets-up) ∙ served)
+
+  now : own (unitIn record-now) memory ≡ calledOf (ownOf (setUpOf address lent)) (asLending calls)
+  now =
+      calls-from-C calls (back .unit) (kept (after .fram) (after .sums)) follow
+      ∙ ap₂ (λ (v : Unit) (w : World). calledOf (own v (kept (w .fram) (w .sums))) (asLending calls))
+      (ap unitIn (ap (λ (r : Returned). r .stepped .unit) sets-up) ∙ a-record-comes-back (setUpOf address lent .unit))
+      (ap (λ (r : Returned). r .world) sets-up)
+
+  -- Demand 3: each kept sum is the CRC of its block as it now stands;
+  pub after-any-calls-from-C-the-sums-are-right : Right memory
+  after-any-calls-from-C-the-sums-are-right = subst (λ (s : Own). Right (s .memory)) (sym now) (after-any-calls-the-sums-are-right address lent fits (asLending calls))
+
+  -- and a CRC command for a range inside FRAM, given to `wheel_step` byte by byte, is answered by the packed reply with the CRC of the bytes
+  -- that are now stored there, worked out afresh.
+  pub the-CRC-sent-from-C-is-fresh : (sending : List FromC) (c : FromC) (message : List ℕ) (source control first last : ℕ) → Inside memory first last
+      → OnTheLine record-now message sending c → Sends (unitIn record-now) message source control (bytes32 first ++ bytes32 last) (callsOf sending) (callOf c)
+      → c .lent .fram ≡ memory .fram → c .lent .sums ≡ memory .sums → codeOf control ≡ 0x06 → polls control ≡ true
+      → toBeSent c
+      ≡ packedOf (replyMessage 1 (record-now .address) source control
+      ((bytes32 first ++ bytes32 last) ++ bytes16 (sumOf (stretch (first - firstOfFram) (last - first + 1) (memory .fram)))))
+  the-CRC-sent-from-C-is-fresh sending c message source control first last range on sends its-fram its-sums code polled =
+      ap (λ (r : Returned). take (r .stepped .sent) (r .world .reply)) (the-line-from-C record-now message sending c on .1)
+      ∙ subst
+      (λ (s : Own). Inside (s .memory) first last → Sends (s .unit) message source control (bytes32 first ++ bytes32 last) (callsOf sending) (callOf c)
+      → c .lent .fram ≡ s .memory .fram → c .lent .sums ≡ s .memory .sums
+      → sentBy (leftBy (s .unit) message (callsOf sending) (callOf c))
+      ≡ packedOf (replyMessage 1 (s .unit .address) source control
+      ((bytes32 first ++ bytes32 last) ++ bytes16 (sumOf (stretch (first - firstOfFram) (last - first + 1) (s .memory .fram))))))
+      (sym now)
+      (λ inside sent fram sums. the-CRC-sent-is-fresh address lent fits (asLending calls) (callsOf sending) (callOf c) message source control first last inside sent fram sums code polled)
+      range sends its-fram its-sums

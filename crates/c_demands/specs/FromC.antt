@@ -1,0 +1,95 @@
+-- Calls of the functions of include/wheel.h, as their caller sees them. Assumes nothing.
+use Prim.Native.Nat.{ℕ, _≤_}
+use mathlib.Core.Path.{_≡_}
+use mathlib.Core.List.{List, [], _∷_, _++_}
+use lib.ListN.{take}
+use Rattle.line.specs.Packing.{packOf}
+use Rattle.memory.specs.Bytes.{begun}
+use Rattle.blocks.specs.Fram.{Kept, kept}
+use Rattle.unit.specs.World.{World}
+use Rattle.unit.specs.Steps.{setUpOf, stepOf}
+use Rattle.board.specs.declared.WheelUnit.{WheelUnit}
+use Rattle.board.specs.declared.WheelStepped.{WheelStepped}
+use Rattle.board.specs.declared.WheelPacked.{WheelPacked}
+use Rattle.board.specs.Records.{unitIn, unitOut, returned, returnedBy, packingBy}
+use Rattle.demands.specs.Calls.{Call, bytesOf}
+use Rattle.demands.specs.Leaving.{countsAfter}
+
+-- A call of `wheel_step`, apart from its record: the byte, what was lent, what came back, and what was lent as the call left it.
+pub record FromC : Type 0 where
+  pub byte : ℕ
+  pub lent : World
+  pub back : WheelStepped
+  pub left : World
+
+-- What the contract of `wheel_step` says of a call with this record, and that of `wheel_set_up` (crates/board/src/lib.rt).
+abbrev pub Steps : WheelUnit → FromC → Type 0
+Steps u c = returned (c .back) (c .left) ≡ returnedBy (stepOf (unitIn u) (c .byte) (c .lent))
+
+abbrev pub SetsUp : ℕ → World → WheelStepped → World → Type 0
+SetsUp address lent back left = returned back left ≡ returnedBy (setUpOf address lent)
+
+-- The same call as demands speaks of it.
+abbrev pub callOf : FromC → Call
+callOf c = record { byte = c .byte; lent = c .lent }
+
+abbrev pub callsOf : List FromC → List Call
+callsOf [] = []
+callsOf (c ∷ calls) = callOf c ∷ callsOf calls
+
+-- ---- demand 1
+
+-- What a call of `wheel_step` leaves, by the number of its answer, for any record at all.
+pub record LeavesInC (u : WheelUnit) (c : FromC) : Type 0 where
+  -- 20 to 26 change nothing at all: the record comes back as it was read.
+  pub nothing-by-a-refused-call : 20 ≤ c .back .answer → (c .back .unit ≡ unitOut (unitIn u)) × (c .left ≡ c .lent)
+  -- All but 1 and 2 leave EDAC, FRAM, sums and mode unchanged.
+  pub memory-unless-a-command-is-done : (c .back .answer ≡ 1 → ⊥) → (c .back .answer ≡ 2 → ⊥)
+      → (c .left .edac ≡ c .lent .edac) × (c .left .fram ≡ c .lent .fram) × (c .left .sums ≡ c .lent .sums) × (c .back .unit .mode ≡ unitOut (unitIn u) .mode)
+  pub counts : c .left .diagnostics ≡ countsAfter (c .back .answer) (c .lent .diagnostics)
+  -- What is to be sent is the first part of the reply buffer; the rest of it is as it was.
+  pub reply : c .left .reply ≡ begun (c .lent .reply) (take (c .back .sent) (c .left .reply))
+  pub address : c .back .unit .address ≡ u .address
+  pub fram-length : c .back .unit .«fram_len» ≡ u .«fram_len»
+
+-- ---- demand 2: bytes on the line, one by one
+
+-- Each call has the record that the one before gave back, and the message buffer as the one before left it.
+abbrev pub OnTheLine : WheelUnit → List ℕ → List FromC → FromC → Type 0
+OnTheLine u message [] c = (c .lent .message ≡ message) × Steps u c
+OnTheLine u message (d ∷ calls) c = (d .lent .message ≡ message) × Steps u d × OnTheLine (d .back .unit) (d .left .message) calls c
+
+-- A message packed by `wheel_pack`, as its contract says: what came back, and the reply buffer before and afterwards.
+abbrev pub Packs : List ℕ → List ℕ → WheelPacked → List ℕ → Type 0
+Packs m before back left = packingBy back left ≡ packOf m before
+
+-- The bytes of some calls, and of one more.
+abbrev pub bytesFromC : List FromC → FromC → List ℕ
+bytesFromC calls c = bytesOf (callsOf calls) ++ (c .byte ∷ [])
+
+-- What is to be sent after a call.
+abbrev pub toBeSent : FromC → List ℕ
+toBeSent c = take (c .back .sent) (c .left .reply)
+
+-- The numbers of their answers.
+abbrev pub numbersOf : List FromC → List ℕ
+numbersOf [] = []
+numbersOf (c ∷ calls) = c .back .answer ∷ numbersOf calls
+
+-- ---- demand 3: any calls
+
+-- Each call has the record that the one before gave back, and FRAM and sums as the one before left them; all else may be anything, of
+-- any length.
+abbrev pub Follow : WheelUnit → Kept → List FromC → Type 0
+Follow u memory [] = Prim.Unit {0}
+Follow u memory (c ∷ calls) =
+    (kept (c .lent .fram) (c .lent .sums) ≡ memory) × Steps u c × Follow (c .back .unit) (kept (c .left .fram) (c .left .sums)) calls
+
+-- The record, and FRAM and sums, that the last of them leaves.
+abbrev pub lastUnit : WheelUnit → List FromC → WheelUnit
+lastUnit u [] = u
+lastUnit u (c ∷ calls) = lastUnit (c .back .unit) calls
+
+abbrev pub lastMemory : Kept → List FromC → Kept
+lastMemory memory [] = memory
+lastMemory memory (c ∷ calls) = lastMemory (kept (c .left .fram) (c .left .sums)) calls
