@@ -1,4 +1,5 @@
--- Calls of the functions of include/wheel.h, as their caller sees them. Assumes nothing.
+-- Calls of the functions of include/wheel.h, as their caller sees them: 01, "The unit and its neighbours" and "One byte in, one answer
+-- out". Assumes nothing.
 use Prim.Native.Nat.{ℕ, _≤_}
 use mathlib.Core.Path.{_≡_}
 use mathlib.Core.List.{List, [], _∷_, _++_}

@@ -12,7 +12,7 @@ use Rattle.memory.specs.Bytes.{stretch, stored, overlaid}
 use Rattle.memory.proofs.Overlays.{what-is-read-after-a-store, a-range-before-a-store, a-range-after-a-store}
 use Rattle.blocks.specs.declared.Found.{Found}
 use Rattle.blocks.specs.declared.Found.the-variants.{At, Outside}
-use Rattle.carrying.specs.Ending.{Ending, done, refused, unfitted, atPlace}
+use Rattle.carrying.specs.Ending.{Ending, atPlace}
 use Rattle.carrying.specs.Storing.{withData, shownAfter}
 
 -- either way of a test

@@ -1,4 +1,5 @@
--- What a command that reads comes to after another has stored, said by what it came to before. Assumes nothing.
+-- What a command that reads comes to after another has stored, said by what it came to before: 01, "Commands" and "How tight the
+-- contracts are" (one that never stores). Assumes nothing.
 use Prim.Native.Nat.{ℕ}
 use mathlib.Core.List.{List, _++_}
 use lib.ListN.{take, drop}

@@ -1,18 +1,17 @@
 -- Demand 3: after any calls each kept sum is the CRC of its block as it now stands, and each CRC answered is the one worked out
 -- afresh. (Its last sentence, on joining, is crc's `any-order-gives-the-whole`.) Assumes nothing.
 use mathlib.Core.Path.{_≡_, refl, sym, ap, ap₂, _∙_, subst}
-use mathlib.Core.Bool.{Bool, true, false, cond, _&&_, false≢true}
+use mathlib.Core.Bool.{Bool, true, false, _&&_, false≢true}
 use mathlib.Core.List.{List, [], _∷_, _++_}
-use Prim.Native.Nat.{ℕ, _+_, _-_, _*_, _/_, _%_, _≤_, _<_}
+use Prim.Native.Nat.{ℕ, _+_, _-_, _/_, _%_, _≤_, _<_}
 use native.Mathlib.Omega.{arith}
 use borrow.Author.Tests.{le-leb, lt-leb, eq-eqb, le-ltb}
 use lib.Dec.{leb, ltb, eqb}
-use lib.ListN.{length, take, drop, length-drop}
+use lib.ListN.{length, drop, length-drop}
 use Rattle.crc.specs.Sum.{sumOf}
 use Rattle.line.proofs.Bounds.{the-count-never-passes-one-above-the-largest}
-use Rattle.line.specs.Framing.{fend}
 use Rattle.line.specs.Receiver.{opened, receiveOf}
-use Rattle.line.specs.Packing.{bodyOf, packedOf, messageSize, replySize}
+use Rattle.line.specs.Packing.{packedOf, messageSize, replySize}
 use Rattle.field.proofs.Words.{four-bytes}
 use Rattle.field.specs.Fields.{word32At, bytes16, bytes32}
 use Rattle.memory.specs.Bytes.{stretch}
@@ -42,18 +41,16 @@ use Rattle.command.specs.Init.{initOf}
 use Rattle.command.specs.Diagnostic.{diagnosticOf}
 use Rattle.command.specs.Command.{commandOf}
 use Rattle.command.proofs.Codes.{of-any-command, in-either-mode}
-use Rattle.answer.specs.declared.Answer.the-variants.{Elsewhere}
-use Rattle.answer.specs.Answers.{sentOf}
 use Rattle.judging.specs.declared.Unit.{Unit}
 use Rattle.judging.specs.declared.fitting.Fit.the-variants.{Fits}
 use Rattle.judging.specs.Fitting.{framFits, largestCount, lengthsFit, setUpFit}
 use Rattle.judging.specs.Judging.{withReceiver}
 use Rattle.judging.proofs.Serving.{Passed, all-passed, a-served-set-up-fits}
-use Rattle.replying.specs.Replies.{codeOf, polls, sealed, replyMessage}
-use Rattle.unit.specs.World.{World, lengthsOf, Outcome, outcome, withMessage, heldOf}
-use Rattle.unit.specs.Steps.{setUpOf, firstOfFram, answered, orderedOf, stepOf}
+use Rattle.replying.specs.Replies.{codeOf, polls, replyMessage}
+use Rattle.unit.specs.World.{World, lengthsOf, Outcome, withMessage, heldOf}
+use Rattle.unit.specs.Steps.{setUpOf, firstOfFram, answered, stepOf}
 use Rattle.unit.proofs.Serving.{set-up-served}
-use Rattle.demands.specs.Calls.{Call, lentTo, Fed, fedOf, bytesOf, delivering, Suits, AllSuit, Idle, Bytes, Lending, its-memory, another, Own, own, withMemory, ownOf, calledOf, Right, Inside}
+use Rattle.demands.specs.Calls.{Call, fedOf, delivering, Suits, Lending, its-memory, another, Own, own, withMemory, ownOf, calledOf, Right, Inside}
 use Rattle.demands.specs.Orders.{Sends, withItsMessage, leftBy, sentBy, cameTo}
 use Rattle.demands.proofs.Cases.{of-any-call}
 use Rattle.demands.proofs.DemandOne.{what-every-answer-leaves}

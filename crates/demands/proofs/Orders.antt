@@ -1,11 +1,11 @@
 -- What a command that is sent to a unit leaves, and what it sends. Assumes nothing.
 use mathlib.Core.Path.{_≡_, refl, sym, ap, _∙_, subst}
-use mathlib.Core.Bool.{Bool, true, false, cond}
-use mathlib.Core.List.{List, [], _∷_, _++_}
+use mathlib.Core.Bool.{true, cond}
+use mathlib.Core.List.{List, [], _∷_}
 use Prim.Native.Nat.{ℕ, zero, suc, _≤_, _<_}
 use native.Mathlib.Omega.{arith}
 use borrow.Author.Tests.{eq-eqb}
-use lib.ListN.{length, drop, getD}
+use lib.ListN.{length, getD}
 use Rattle.line.specs.Packing.{packedOf}
 use Rattle.line.specs.Receiver.{opened}
 use Rattle.memory.specs.Edac.{edacSize}
@@ -17,8 +17,8 @@ use Rattle.answer.specs.Answers.{numberOf}
 use Rattle.judging.specs.declared.Unit.{Unit}
 use Rattle.judging.specs.Judging.{withReceiver}
 use Rattle.judging.proofs.Serving.{a-served-step-fits}
-use Rattle.replying.specs.Replies.{polls, sealed, replyMessage, Said, saying, saidOf}
-use Rattle.unit.specs.World.{World, lengthsOf, Outcome, outcome, withHeld}
+use Rattle.replying.specs.Replies.{polls, replyMessage, Said, saying, saidOf}
+use Rattle.unit.specs.World.{World, lengthsOf, Outcome, outcome}
 use Rattle.unit.specs.Steps.{answered, orderedOf}
 use Rattle.demands.specs.Calls.{Call, Fed, lentTo, fedOf, delivering, Bytes}
 use Rattle.demands.specs.Orders.{Sends, withItsMessage, leftBy, sentBy, cameTo}

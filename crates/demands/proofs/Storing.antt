@@ -1,17 +1,17 @@
 -- Demand 2, on what is stored: a command that reads, sent after one that stored and was done, shows what was stored; and elsewhere what
 -- stood there. Between the two, and by them, anything may be lent but the memory that was stored in. Assumes nothing.
-use mathlib.Core.Path.{_≡_, refl, sym, ap, ap₂, _∙_, subst}
+use mathlib.Core.Path.{_≡_, refl, sym, ap, _∙_}
 use mathlib.Core.Bool.{true}
 use mathlib.Core.List.{List, _++_}
 use mathlib.Core.Logic.{_⊎_}
 use Prim.Native.Nat.{ℕ, _+_, _-_, _≤_, _<_}
 use native.Mathlib.Omega.{arith}
-use lib.ListN.{length, drop, getD}
+use lib.ListN.{length}
 use Rattle.line.specs.Packing.{packedOf}
 use Rattle.field.specs.Fields.{word16At, word32At, bytes16, bytes32}
 use Rattle.field.proofs.Words.{two-bytes, four-bytes}
 use Rattle.memory.specs.Edac.{edacSize}
-use Rattle.blocks.specs.Fram.{Kept, kept}
+use Rattle.blocks.specs.Fram.{kept}
 use Rattle.carrying.specs.declared.Mode.{Mode}
 use Rattle.carrying.specs.declared.Mode.the-variants.{Bootloader, Application}
 use Rattle.carrying.specs.Ending.{longestData, Ending, done, refused, unfitted}
@@ -35,7 +35,7 @@ use Rattle.command.proofs.Codes.{in-either-mode, in-application, not-in-bootloa
 use Rattle.answer.specs.Answers.{numberOf}
 use Rattle.judging.specs.declared.Unit.{Unit}
 use Rattle.replying.specs.Replies.{codeOf, polls, replyMessage}
-use Rattle.unit.specs.World.{World, Outcome, heldOf}
+use Rattle.unit.specs.World.{heldOf}
 use Rattle.unit.specs.Steps.{firstOfFram}
 use Rattle.demands.specs.Calls.{Call, Bytes}
 use Rattle.demands.specs.Orders.{Sends, leftBy, sentBy, cameTo, withFram, withEdac, showing}

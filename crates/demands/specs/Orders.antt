@@ -1,4 +1,4 @@
--- A command that is sent to a unit, and what it comes to. Assumes nothing.
+-- A command that is sent to a unit, and what it comes to: 01, "The line", "The message" and "Commands". Assumes nothing.
 use Prim.Native.Nat.{ℕ, _≤_}
 use mathlib.Core.Path.{_≡_}
 use mathlib.Core.List.{List, _∷_, _++_}

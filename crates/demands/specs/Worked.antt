@@ -10,7 +10,7 @@ use Rattle.line.specs.Unpacking.{unpackOf}
 use Rattle.memory.specs.Bytes.{stored}
 use Rattle.judging.specs.declared.Unit.{Unit}
 use Rattle.answer.specs.Answers.{numberOf, sentOf}
-use Rattle.unit.specs.World.{World, world, Outcome}
+use Rattle.unit.specs.World.{World, world}
 use Rattle.unit.specs.Steps.{setUpOf, stepOf}
 
 -- What is seen of bytes on the line of a unit whose memory and buffers nobody else touches: the number of each answer, all that is

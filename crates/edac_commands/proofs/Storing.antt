@@ -2,7 +2,7 @@
 -- stood there. Assumes nothing.
 use mathlib.Core.Path.{_≡_, refl, sym, ap, ap₂, _∙_}
 use mathlib.Core.Bool.{Bool, true, false, cond, _&&_, false≢true}
-use mathlib.Core.List.{List, [], _∷_, _++_, append-nil}
+use mathlib.Core.List.{List, _++_, append-nil}
 use Prim.Native.Nat.{ℕ, _+_, _-_, _≤_, _<_}
 use native.Mathlib.Omega.{arith}
 use borrow.Author.Tests.{le-ltb, ltb-false, eqb-true, leb-true, ne-eqb}
@@ -15,7 +15,7 @@ use Rattle.memory.proofs.Overlays.{what-is-read-after-a-store}
 use Rattle.field.specs.Fields.{word16At, bytes16, shortCount}
 use Rattle.field.specs.Reading.{Listed, ends, cut, item, listedFrom}
 use Rattle.field.proofs.Words.{two-bytes}
-use Rattle.carrying.specs.Ending.{Ending, done, refused}
+use Rattle.carrying.specs.Ending.{done, refused}
 use Rattle.carrying.specs.Storing.{withData, shownAfter}
 use Rattle.carrying.proofs.Storing.{either-way-alike, shown-after-a-store}
 use Rattle.edac_commands.specs.ReadEdac.{readEdacRangeOf, readEdacOf}

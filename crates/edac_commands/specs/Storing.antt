@@ -1,4 +1,4 @@
--- What GATHER shows after a store. Assumes nothing.
+-- What GATHER shows after a store (01, "Commands"; ICD 11.14 and 11.15). Assumes nothing.
 use Prim.Native.Nat.{ℕ}
 use mathlib.Core.List.{List, [], _++_}
 use Rattle.memory.specs.Bytes.{stretch, overlaid}

@@ -6,15 +6,15 @@ use Prim.Native.Nat.{ℕ, zero, suc, _+_, _≤_, _<_}
 use native.Mathlib.Omega.{arith}
 use borrow.Author.Tests.{le-ltb, ltb-false, ne-eqb, eqb-false}
 use lib.Dec.{eqb, ltb}
-use lib.ListN.{length, drop, getD, length-drop}
+use lib.ListN.{length, drop, getD}
 use Rattle.memory.specs.Bytes.{stretch}
 use Rattle.memory.specs.Edac.{edacSize, bodySize, shownSize, fileShown, fileStored}
 use Rattle.memory.proofs.Stretches.{length-of-a-stretch}
 use Rattle.memory.proofs.Tests.{either-side}
 use Rattle.memory.proofs.Files.{a-stored-file-keeps-the-length, a-file-after-a-store}
-use Rattle.field.specs.Reading.{Listed, isWhole}
+use Rattle.field.specs.Reading.{isWhole}
 use Rattle.field.proofs.Lists.{by-structures, list-ends}
-use Rattle.carrying.specs.Ending.{Ending, done, refused}
+use Rattle.carrying.specs.Ending.{done, refused}
 use Rattle.carrying.specs.Storing.{withData}
 use Rattle.carrying.proofs.Storing.{either-way-alike}
 use Rattle.file_commands.specs.ReadFile.{filesShown, filesWidth, readFileOf}

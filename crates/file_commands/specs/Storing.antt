@@ -1,4 +1,4 @@
--- What READ FILE shows after files were stored. Assumes nothing.
+-- What READ FILE shows after files were stored in order (01, "Commands"; ICD 11.11 and 11.12). Assumes nothing.
 use Prim.Native.Nat.{ℕ}
 use mathlib.Core.Bool.{cond}
 use mathlib.Core.List.{List, [], _∷_, _++_}

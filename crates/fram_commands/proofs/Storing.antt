@@ -1,5 +1,5 @@
 -- PEEK after a POKE that was done: of the range that was poked, the bytes poked; byte for byte, those or what stood there. Assumes nothing.
-use mathlib.Core.Path.{_≡_, refl, sym, ap, ap₂, _∙_, subst}
+use mathlib.Core.Path.{_≡_, refl, sym, ap, ap₂, _∙_}
 use mathlib.Core.Bool.{Bool, true, false, cond}
 use mathlib.Core.List.{List, _++_}
 use Prim.Native.Nat.{ℕ, _+_, _-_, _≤_, _<_}
@@ -15,7 +15,7 @@ use Rattle.blocks.specs.declared.Found.{Found}
 use Rattle.blocks.specs.declared.Found.the-variants.{At, Outside}
 use Rattle.field.specs.Fields.{word16At, word32At, bytes16, bytes32, shortCount}
 use Rattle.field.proofs.Words.{two-bytes}
-use Rattle.carrying.specs.Ending.{Ending, done, refused, unfitted, atPlace}
+use Rattle.carrying.specs.Ending.{done, refused, atPlace}
 use Rattle.carrying.specs.Storing.{withData, shownAfter}
 use Rattle.carrying.proofs.Storing.{either-way-alike, at-any-place-alike, shown-after-a-store}
 use Rattle.fram_commands.specs.Peek.{peekRangeOf, peekOf}

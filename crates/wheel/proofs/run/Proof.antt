@@ -2,7 +2,6 @@
 use Prim.Native.Nat.{_<_}
 use mathlib.Core.Path.{_≡_, refl, _∙_}
 use lib.ListN.{length}
-use borrow.Author.Needs.{needs}
 use native.Mathlib.Omega.{arith}
 use Rattle.wheel.proofs.run.Statement.{statement}
 use Rattle.wheel.proofs.run.Tie as tie
