@@ -43,7 +43,7 @@ static uint16_t crc(const uint8_t *bytes, size_t length) {
 }
 
 int main(int count, char **words) {
-    static uint8_t bytes[131072];
+    static uint8_t bytes[262144];
     if (count != 3) {
         return 1;
     }

@@ -37,7 +37,9 @@ fn long_inputs() {
 fn going_on_from_every_start() {
     let mut seeded = Seeded(3);
     for start in 0..=0xffff {
-        let length = seeded.number() as usize % 20;
+        // Some are long enough to be summed by chunks, with and without bytes left behind the last.
+        let most = if start % 16 == 0 { 600 } else { 20 };
+        let length = seeded.number() as usize % most;
         let bytes = seeded.bytes(length);
         assert_eq!(
             proved::crc_from(start, &bytes),
@@ -55,6 +57,26 @@ fn every_byte_after_every_high_byte() {
                 proved::crc_from(start, &[byte]),
                 plain::bit_by_bit(start, &[byte])
             );
+        }
+    }
+}
+
+/// A sum is linear in the bits of the message, so these say which bit of each byte does what, at lengths on either side of
+/// where it is summed by chunks, and of a chunk's end.
+#[test]
+fn every_bit_alone() {
+    for length in [191, 192, 193, 255, 256, 257, 1033] {
+        let mut bytes = vec![0; length];
+        for place in 0..length {
+            for bit in 0..8 {
+                bytes[place] = 1 << bit;
+                assert_eq!(
+                    proved::crc(&bytes),
+                    plain::crc(&bytes),
+                    "bit {bit} of byte {place} of {length}"
+                );
+            }
+            bytes[place] = 0;
         }
     }
 }

@@ -1,12 +1,19 @@
 -- The table's rule at each entry, and from there to the byte step of any sum. Assumes nothing.
-use mathlib.Core.Path.{_≡_, sym, ap, ap₂, _∙_}
+use mathlib.Core.Path.{_≡_, sym, ap, ap₂, subst, _∙_}
+use mathlib.Core.Bool.{Bool, true, false, cond}
+use mathlib.Core.Logic.{⊎-elim}
 use mathlib.Core.List.{List}
 use Prim.Native.Nat.{ℕ, zero, suc, _+_, _*_, _/_, _%_, _^_, _<_}
-use native.Mathlib.Nat.{add-zero, zero-add, add-suc, suc-add, mul-one, le-of-suc-le-suc, not-suc-le-zero, div-add-mod', mod-lt, zero-lt-suc}
-use lib.Bits.{bitXor, xor-shifted, xor-comm, xor-zero-r, shifted-half, shifted-even}
+use native.Mathlib.Nat.{add-zero, zero-add, add-suc, suc-add, mul-one, le-of-suc-le-suc, not-suc-le-zero, div-add-mod', mod-lt, zero-lt-suc, eq-or-lt-of-le}
+use native.Mathlib.Omega.{arith}
+use lib.Bits.{bitXor, xor-shifted, xor-comm, xor-zero-r, xor-lt, xor-shr, shifted-half, shifted-even}
+use lib.Pow.{pow-pos, split}
+use lib.Dec.{T, eqb, eqb→eq}
 use lib.ListN.{getD}
 use Rattle.crc.specs.Sum.{gate, bitStep, bitSteps, steps, tableOf, polynomial}
+use Rattle.crc.proofs.Xor.{xor-assoc}
 use Rattle.crc.proofs.Linear.{bitSteps-linear}
+use Rattle.crc.proofs.Halving.{first, second}
 
 -- the entry at k of a run of entries that starts at i
 entry : (count i k : ℕ) → k < count → getD (steps count i) k 0 ≡ bitSteps 8 (i + k)
@@ -28,11 +35,89 @@ moves-down (suc k) y =
     (ap₂ (λ (half odd : ℕ). bitXor half (gate polynomial odd)) (shifted-half y k) (shifted-even y k) ∙ xor-zero-r (y * 2 ^ k))
     ∙ moves-down k y
 
--- the byte step of any sum: the low byte by the table, the high byte moved down
+-- the byte step of any sum: the high byte moves down, and the low byte is stepped
+low-and-high : (x : ℕ) → bitXor (x / 256) (bitSteps 8 (x % 256)) ≡ bitSteps 8 x
+low-and-high x =
+    ap (λ (y : ℕ). bitXor y (bitSteps 8 (x % 256))) (sym (moves-down 8 (x / 256)))
+    ∙ sym (bitSteps-linear 8 (x / 256 * 2 ^ 8) (x % 256))
+    ∙ ap (bitSteps 8) (xor-shifted (x / 256) 8 (x % 256) (mod-lt x (zero-lt-suc 255)) ∙ div-add-mod' x 256)
+
+-- by the table
 pub by-the-table : (table : List ℕ) (x : ℕ) → table ≡ tableOf → bitXor (getD table (x % 256) 0) (x / 256) ≡ bitSteps 8 x
 by-the-table table x e =
     ap (λ t. bitXor (getD t (x % 256) 0) (x / 256)) e
-    ∙ ap₂ bitXor (table-at (x % 256) (mod-lt x (zero-lt-suc 255))) (sym (moves-down 8 (x / 256)))
-    ∙ xor-comm (bitSteps 8 (x % 256)) (bitSteps 8 (x / 256 * 2 ^ 8))
-    ∙ sym (bitSteps-linear 8 (x / 256 * 2 ^ 8) (x % 256))
-    ∙ ap (bitSteps 8) (xor-shifted (x / 256) 8 (x % 256) (mod-lt x (zero-lt-suc 255)) ∙ div-add-mod' x 256)
+    ∙ ap (λ (y : ℕ). bitXor y (x / 256)) (table-at (x % 256) (mod-lt x (zero-lt-suc 255)))
+    ∙ xor-comm (bitSteps 8 (x % 256)) (x / 256)
+    ∙ low-and-high x
+
+-- without it: eight steps of a byte, as the polynomial's few digits make them
+abbrev spread : ℕ → ℕ
+spread x = bitXor x (x * 16 % 256)
+
+abbrev bare : ℕ → ℕ
+bare x = bitXor (spread x * 256) (bitXor (spread x * 8) (spread x / 16))
+
+bare-to : ℕ → Bool
+bare-to zero = true
+bare-to (suc n) = cond (eqb (bare n) (bitSteps 8 n)) (bare-to n) false
+
+bare-at : (n k : ℕ) → T (bare-to n) → k < n → bare k ≡ bitSteps 8 k
+unfolding bare-to
+bare-at zero k t h = absurd (not-suc-le-zero h)
+bare-at (suc n) k t h =
+    let same = eqb (bare n) (bitSteps 8 n) in
+    ⊎-elim (λ e. subst (λ (m : ℕ). bare m ≡ bitSteps 8 m) (sym e) (eqb→eq (bare n) (bitSteps 8 n) (first same (bare-to n) t)))
+    (λ below. bare-at n k (second same (bare-to n) t) below)
+    (eq-or-lt-of-le (le-of-suc-le-suc h))
+
+-- every byte is tested
+bare-bytes : T (bare-to 256)
+unfolding bare-to bitSteps bitStep
+bare-bytes = tt
+
+pub without-the-table : (x : ℕ) → bitXor (x / 256) (bare (x % 256)) ≡ bitSteps 8 x
+without-the-table x =
+    ap (bitXor (x / 256)) (bare-at 256 (x % 256) bare-bytes (mod-lt x (zero-lt-suc 255))) ∙ low-and-high x
+
+pub spread-below : (x : ℕ) → spread (x % 256) < 2 ^ 8
+spread-below x = xor-lt 8 (x % 256) (x % 256 * 16 % 256) (mod-lt x (zero-lt-suc 255)) (mod-lt (x % 256 * 16) (zero-lt-suc 255))
+
+-- steps after steps
+pub steps-add : (m n a : ℕ) → bitSteps (m + n) a ≡ bitSteps n (bitSteps m a)
+unfolding bitSteps
+steps-add zero n a = rw zero-add
+steps-add (suc m) n a = rw suc-add (steps-add m n (bitStep a))
+
+-- steps over a word's low half, and then over the high one
+pub half-steps : (k sum word : ℕ) → bitSteps (k + k) (bitXor sum word) ≡ bitSteps k (bitXor (bitSteps k (bitXor sum (word % 2 ^ k))) (word / 2 ^ k))
+half-steps k sum word =
+    let low = word % 2 ^ k in
+    let high = word / 2 ^ k in
+    let apart : word ≡ bitXor low (high * 2 ^ k) =
+    sym (split word k) ∙ sym (xor-shifted high k low (mod-lt word (pow-pos k))) ∙ xor-comm (high * 2 ^ k) low in
+    steps-add k k (bitXor sum word)
+    ∙ ap (bitSteps k)
+    (ap (λ (w : ℕ). bitSteps k (bitXor sum w)) apart
+    ∙ ap (bitSteps k) (sym (xor-assoc sum low (high * 2 ^ k)))
+    ∙ bitSteps-linear k (bitXor sum low) (high * 2 ^ k)
+    ∙ ap (bitXor (bitSteps k (bitXor sum low))) (moves-down k high))
+
+-- two bytes by the table: what is mixed is stepped twice
+pub two-by-the-table : (table : List ℕ) (sum low high : ℕ) → sum < 2 ^ 16 → low < 2 ^ 8 → high < 2 ^ 8 → table ≡ tableOf
+    → bitXor (getD table (bitXor (getD table (bitXor sum (low + 256 * high) % 256) 0) (bitXor sum (low + 256 * high) / 256) % 256) 0) (getD table (bitXor sum (low + 256 * high) % 256) 0 / 256)
+    ≡ bitSteps 8 (bitXor (bitSteps 8 (bitXor sum low)) high)
+two-by-the-table table sum low high hs hl hh e =
+    let word = low + 256 * high in
+    let mixed = bitXor sum word in
+    let first = getD table (mixed % 256) 0 in
+    let next = bitXor first (mixed / 256) in
+    let below : mixed < 2 ^ 16 = xor-lt 16 sum word hs (omega (arith, hl, hh)) in
+    let gone : mixed / 256 / 256 ≡ 0 = omega (arith, below) in
+    let the-low : word % 256 ≡ low = omega (arith, hl) in
+    let the-high : word / 256 ≡ high = omega (arith, hl) in
+    ap (bitXor (getD table (next % 256) 0)) (sym (xor-shr first (mixed / 256) 8 ∙ ap (bitXor (first / 256)) gone ∙ xor-zero-r (first / 256)))
+    ∙ by-the-table table next e
+    ∙ ap (bitSteps 8) (by-the-table table mixed e)
+    ∙ sym (steps-add 8 8 mixed)
+    ∙ half-steps 8 sum word
+    ∙ ap₂ (λ (l h : ℕ). bitSteps 8 (bitXor (bitSteps 8 (bitXor sum l)) h)) the-low the-high

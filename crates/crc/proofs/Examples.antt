@@ -2,6 +2,7 @@
 use mathlib.Core.Path.{_≡_, refl}
 use mathlib.Core.List.{[], _∷_}
 use mathlib.Core.Option.{none}
+use Rattle.folding.proofs.Examples.{counting}
 use Rattle.crc.specs.Sum.{bitStep, bitSteps, byteStep, sumFrom, sumOf, carried}
 use Rattle.crc.specs.Joining.{withPart, joinedOf, joinOf}
 
@@ -42,3 +43,9 @@ one-too-many = refl
 pub the-longest : joinOf (record { sum = 0xFFFF; len = 0xFFFFFFFE }) (record { sum = 0xFFFF; len = 1 }) ≡ withPart (record { sum = 0xFFFF; len = 0xFFFFFFFF })
 unfolding joinOf joinedOf carried byteStep bitSteps bitStep
 the-longest = refl
+
+-- The bytes 00 to 7F, and from 0 the sixteen that stand for them (`two-chunks-reduced` of folding), have the same sum.
+pub the-same-sum : (sumOf (counting 128 0) ≡ 0x0E46)
+    × (sumFrom 0 (0x15 ∷ 0xA9 ∷ 0x99 ∷ 0xDD ∷ 0xA1 ∷ 0xE5 ∷ 0x3B ∷ 0x05 ∷ 0xC9 ∷ 0xC0 ∷ 0x79 ∷ 0x3F ∷ 0x1C ∷ 0x20 ∷ 0x2D ∷ 0xDC ∷ []) ≡ 0x0E46)
+unfolding sumOf sumFrom byteStep bitSteps bitStep
+the-same-sum = (refl, refl)

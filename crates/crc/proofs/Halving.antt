@@ -21,11 +21,11 @@ agreeing f g (suc k) = cond (eqb (f (2 ^ k)) (g (2 ^ k))) (agreeing f g k) false
 abbrev Linear : (ℕ → ℕ) → Type 0
 Linear f = (a b : ℕ) → f (bitXor a b) ≡ bitXor (f a) (f b)
 
-first : (b t : Bool) → T (cond b t false) → T b
+pub first : (b t : Bool) → T (cond b t false) → T b
 first true t h = tt
 first false t h = h
 
-second : (b t : Bool) → T (cond b t false) → T t
+pub second : (b t : Bool) → T (cond b t false) → T t
 second true t h = h
 second false t h = absurd h
 
@@ -69,7 +69,7 @@ product-linear (suc k) power a b =
     (product-linear k (power / 2) a b)
     ∙ xor-across (bitSteps k (gate a (power % 2))) (bitSteps k (gate b (power % 2))) (product k a (power / 2)) (product k b (power / 2))
 
-product-of-xor : (k sum : ℕ) → Linear (product k sum)
+pub product-of-xor : (k sum : ℕ) → Linear (product k sum)
 unfolding product
 product-of-xor zero sum a b = refl
 product-of-xor (suc k) sum a b =
@@ -134,7 +134,7 @@ product-step sum power hs hp =
 
 -- ---- from bits to bytes, and to any number of them
 
-gate-below : (power : ℕ) → gate polynomial (power % 2) < 2 ^ 16
+pub gate-below : (power : ℕ) → gate polynomial (power % 2) < 2 ^ 16
 gate-below power = bit-cases (λ d. gate polynomial d < 2 ^ 16) (lit< tt) (lit< tt) power
 
 step-below : (a : ℕ) → a < 2 ^ 16 → bitStep a < 2 ^ 16
@@ -174,7 +174,7 @@ product-carried (suc n) sum power hs hp =
     ∙ ap (carried n)
     (ap (product 16 sum) (byteStep-zero power) ∙ product-steps 8 sum power hs hp ∙ sym (byteStep-zero (product 16 sum power)))
 
-product-one : (sum : ℕ) → product 16 sum noShift ≡ sum
+pub product-one : (sum : ℕ) → product 16 sum noShift ≡ sum
 unfolding product bitSteps bitStep
 product-one sum = xor-zero-r sum
 

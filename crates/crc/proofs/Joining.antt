@@ -48,7 +48,7 @@ unfolding joinedOf part carried
 neutral-on-the-right a = ap₂ part (xor-twice (a .sum) start) (add-zero (a .len))
 
 -- the sum of two lists, one after the other, goes on from the first
-sumFrom-append : (sum : ℕ) (xs ys : List ℕ) → sumFrom sum (xs ++ ys) ≡ sumFrom (sumFrom sum xs) ys
+pub sumFrom-append : (sum : ℕ) (xs ys : List ℕ) → sumFrom sum (xs ++ ys) ≡ sumFrom (sumFrom sum xs) ys
 unfolding sumFrom
 sumFrom-append sum [] ys = refl
 sumFrom-append sum (x ∷ xs) ys = sumFrom-append _ xs ys

@@ -2,7 +2,9 @@ pub mod Xor
 pub mod Linear
 pub mod ByteSteps
 pub mod Halving
+pub mod Words
 pub mod Fragment
 pub mod Joining
 pub mod Turns
+pub mod Chunks
 pub mod Examples

@@ -4,6 +4,7 @@ use mathlib.Core.List.{List}
 use Prim.Native.Nat.{ℕ, zero, suc, _+_, _-_, _/_, _%_, _≤_, _<_}
 use native.Mathlib.Nat.{not-suc-le-zero}
 use native.Mathlib.Numerals.{add-one, sub-one}
+use native.Mathlib.Omega.{arith}
 use lib.Bits.{bitXor, xor-zero-r}
 use lib.ListN.{length, drop, getD, drop-of-length-le}
 use lib.Seq.{drop-cons}
@@ -43,6 +44,14 @@ pub sum-turn : (bytes : List ℕ) (i sum next : ℕ) → i < length bytes → ne
     → sumFrom next (drop (i + 1) bytes) ≡ sumFrom sum (drop i bytes)
 unfolding sumFrom
 sum-turn bytes i sum next h e = rw (add-one, e, drop-cons bytes i 0)
+
+pub two-turn : (bytes : List ℕ) (i sum next : ℕ) → i + 1 < length bytes → next ≡ byteStep (byteStep sum (getD bytes i 0)) (getD bytes (i + 1) 0)
+    → sumFrom next (drop (i + 2) bytes) ≡ sumFrom sum (drop i bytes)
+two-turn bytes i sum next h e =
+    let past : i + 2 ≡ i + 1 + 1 = omega arith in
+    ap (λ (n : ℕ). sumFrom next (drop n bytes)) past
+    ∙ sum-turn bytes (i + 1) (byteStep sum (getD bytes i 0)) next h e
+    ∙ sum-turn bytes i sum (byteStep sum (getD bytes i 0)) (omega (arith, h)) refl
 
 pub sum-end : (bytes : List ℕ) (i sum : ℕ) → length bytes ≤ i → sum ≡ sumFrom sum (drop i bytes)
 unfolding sumFrom

@@ -1,8 +1,12 @@
 // The CRC of the Nanosatellite Protocol (ICD 10.8) and the joining of sums (01, "The message").
 mod table;
 
+use folding::CHUNK;
+use folding::reduce;
 use table::TABLE;
 ghost use mathlib.Core.Path.{_≡_};
+ghost use Prim.Native.Nat.{_≤_};
+ghost use lib.ListN.{length};
 ghost use Rattle.crc.specs.Sum.{gate, bitStep, bitSteps, byteStep, sumFrom, sumOf, tableOf};
 ghost use Rattle.crc.specs.Joining.{joiningOf, joinOf, powerOf, product};
 
@@ -28,32 +32,100 @@ fn step(table: &[u16; 256], sum: u16, byte: u8) -> u16
     table[at] ^ (mixed >> 8)
 }
 
+// A sum after two more bytes. The high byte of a sum only moves down, so both are mixed in at once.
+fn step_two(table: &[u16; 256], sum: u16, low: u8, high: u8) -> u16
+    requires { ⌜ now table ≡ tableOf ⌝ }
+    ensures { λ r. ⌜ r ≡ byteStep (byteStep sum low) high ⌝ }
+{
+    let mixed = sum ^ (low as u16 + 256 * (high as u16));
+    let at = (mixed % 256) as usize;
+    let first = table[at];
+    let next = first ^ (mixed >> 8);
+    let then = (next % 256) as usize;
+    table[then] ^ (first >> 8)
+}
+
 fn over(table: &[u16; 256], start: u16, bytes: &[u8]) -> u16
     requires { ⌜ now table ≡ tableOf ⌝ }
     ensures { λ r. ⌜ r ≡ sumFrom start (now (bytes .entry)) ⌝ }
 {
     let mut sum = start;
     let mut i = 0;
-    while i < bytes.len() {
-        sum = step(table, sum, bytes[i]);
-        i += 1;
+    let even = bytes.len() / 2 * 2;
+    while i < even {
+        sum = step_two(table, sum, bytes[i], bytes[i + 1]);
+        i += 2;
+    }
+    if i < bytes.len() {
+        return step(table, sum, bytes[i]);
     }
     sum
 }
 
-// The sum of `bytes` that goes on from `start`.
-pub fn sum_from(start: u16, bytes: &[u8]) -> u16
+// The sum of `bytes` that goes on from `start`, byte by byte with the table.
+fn bytewise(start: u16, bytes: &[u8]) -> u16
     ensures { λ r. ⌜ r ≡ sumFrom start (now (bytes .entry)) ⌝ }
 {
     let table = TABLE;
     over(&table, start, bytes)
 }
 
-// The sum of `bytes`.
+// A sum after one more byte, with no table: for a few bytes shifts are cheaper than to copy one.
+fn step_bare(sum: u16, byte: u8) -> u16
+    ensures { λ r. ⌜ r ≡ byteStep sum byte ⌝ }
+{
+    let mixed = sum ^ (byte as u16);
+    let low = mixed % 256;
+    let spread = low ^ (low * 16 % 256);
+    (mixed >> 8) ^ ((spread * 256) ^ ((spread * 8) ^ (spread >> 4)))
+}
+
+// The sum of a few bytes, from 0.
+fn few(bytes: &[u8]) -> u16
+    ensures { λ r. ⌜ r ≡ sumFrom 0 (now (bytes .entry)) ⌝ }
+{
+    let mut sum = 0;
+    let mut i = 0;
+    while i < bytes.len() {
+        sum = step_bare(sum, bytes[i]);
+        i += 1;
+    }
+    sum
+}
+
+// The same, by sixteen bytes that stand for all whole chunks, and behind them what is left of the bytes.
+fn by_chunks(start: u16, bytes: &[u8]) -> u16
+    requires { ⌜ 64 ≤ length (now bytes) ⌝ }
+    ensures { λ r. ⌜ r ≡ sumFrom start (now (bytes .entry)) ⌝ }
+{
+    let whole = bytes.len() / CHUNK * CHUNK;
+    let standing = reduce(start, &bytes[0..whole]);
+    let chunks = few(&standing);
+    if bytes.len() <= whole {
+        return chunks;
+    }
+    bytewise(chunks, &bytes[whole..])
+}
+
+// The sum of `bytes` that goes on from `start`.
+pub fn sum_from(start: u16, bytes: &[u8]) -> u16
+    ensures { λ r. ⌜ r ≡ sumFrom start (now (bytes .entry)) ⌝ }
+{
+    if bytes.len() < CHUNK {
+        return bytewise(start, bytes);
+    }
+    by_chunks(start, bytes)
+}
+
+// The sum of `bytes`. It could be `sum_from` of the start value. But `by_chunks`, called from two places, stays a function
+// of its own in the compiled code, and the sum of a short message then saves no registers for it.
 pub fn sum(bytes: &[u8]) -> u16
     ensures { λ r. ⌜ r ≡ sumOf (now (bytes .entry)) ⌝ }
 {
-    sum_from(START, bytes)
+    if bytes.len() < CHUNK {
+        return bytewise(START, bytes);
+    }
+    by_chunks(START, bytes)
 }
 
 // A stretch of bytes by its sum and its length alone.

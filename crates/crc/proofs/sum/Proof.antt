@@ -1,15 +1,22 @@
--- `crc::sum` meets its contract: it goes on from the start value. Assumes nothing.
+-- `crc::sum` meets its contract: either way goes on from the start value. Assumes nothing.
 use borrow.Author.Needs.{needs}
 use Rattle.crc.specs.Sum.{sumOf}
 use Rattle.crc.proofs.sum.Statement.{statement}
 use Rattle.crc.proofs.sum.Tie as tie
 
-sum-from-requires : tie.Need-sum-from-requires
-sum-from-requires c κs = search needs
+bytewise-requires : tie.Need-bytewise-requires
+bytewise-requires c κs = search needs
 
 returns : tie.Need-returns
 unfolding sumOf
-returns c = c .sum-from .ensures
+returns c = c .bytewise .ensures
+
+by-chunks-requires : tie.Need-by-chunks-requires
+by-chunks-requires c κs = search needs
+
+returns-2 : tie.Need-returns-2
+unfolding sumOf
+returns-2 c = c .by-chunks .ensures
 
 pub sum-spec : {M : Type 1} → statement M
-sum-spec = tie.close (tie.spec sum-from-requires returns)
+sum-spec = tie.close (tie.spec bytewise-requires returns by-chunks-requires returns-2)
