@@ -65,7 +65,7 @@ fn every_byte_after_every_high_byte() {
 /// where it is summed by chunks, and of a chunk's end.
 #[test]
 fn every_bit_alone() {
-    for length in [191, 192, 193, 255, 256, 257, 1033] {
+    for length in [63, 64, 65, 127, 128, 129, 255, 256, 257, 1033] {
         let mut bytes = vec![0; length];
         for place in 0..length {
             for bit in 0..8 {

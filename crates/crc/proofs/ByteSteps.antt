@@ -1,19 +1,15 @@
 -- The table's rule at each entry, and from there to the byte step of any sum. Assumes nothing.
-use mathlib.Core.Path.{_≡_, sym, ap, ap₂, subst, _∙_}
-use mathlib.Core.Bool.{Bool, true, false, cond}
-use mathlib.Core.Logic.{⊎-elim}
+use mathlib.Core.Path.{_≡_, sym, ap, ap₂, _∙_}
 use mathlib.Core.List.{List}
 use Prim.Native.Nat.{ℕ, zero, suc, _+_, _*_, _/_, _%_, _^_, _<_}
-use native.Mathlib.Nat.{add-zero, zero-add, add-suc, suc-add, mul-one, le-of-suc-le-suc, not-suc-le-zero, div-add-mod', mod-lt, zero-lt-suc, eq-or-lt-of-le}
+use native.Mathlib.Nat.{add-zero, zero-add, add-suc, suc-add, mul-one, le-of-suc-le-suc, not-suc-le-zero, mod-lt, zero-lt-suc}
 use native.Mathlib.Omega.{arith}
-use lib.Bits.{bitXor, xor-shifted, xor-comm, xor-zero-r, xor-lt, xor-shr, shifted-half, shifted-even}
-use lib.Pow.{pow-pos, split}
-use lib.Dec.{T, eqb, eqb→eq}
+use lib.Bits.{bitXor, xor-comm, xor-zero-r, xor-lt, xor-shr, xor-mod, shifted-half, shifted-even}
 use lib.ListN.{getD}
 use Rattle.crc.specs.Sum.{gate, bitStep, bitSteps, steps, tableOf, polynomial}
-use Rattle.crc.proofs.Xor.{xor-assoc}
+use Rattle.crc.proofs.Xor.{xor-assoc, xor-across, shift-linear, high-and-low}
 use Rattle.crc.proofs.Linear.{bitSteps-linear}
-use Rattle.crc.proofs.Halving.{first, second}
+use Rattle.crc.proofs.Halving.{Linear, agree}
 
 -- the entry at k of a run of entries that starts at i
 entry : (count i k : ℕ) → k < count → getD (steps count i) k 0 ≡ bitSteps 8 (i + k)
@@ -38,9 +34,10 @@ moves-down (suc k) y =
 -- the byte step of any sum: the high byte moves down, and the low byte is stepped
 low-and-high : (x : ℕ) → bitXor (x / 256) (bitSteps 8 (x % 256)) ≡ bitSteps 8 x
 low-and-high x =
-    ap (λ (y : ℕ). bitXor y (bitSteps 8 (x % 256))) (sym (moves-down 8 (x / 256)))
-    ∙ sym (bitSteps-linear 8 (x / 256 * 2 ^ 8) (x % 256))
-    ∙ ap (bitSteps 8) (xor-shifted (x / 256) 8 (x % 256) (mod-lt x (zero-lt-suc 255)) ∙ div-add-mod' x 256)
+    sym
+    (ap (bitSteps 8) (high-and-low 8 x)
+    ∙ bitSteps-linear 8 (x / 256 * 2 ^ 8) (x % 256)
+    ∙ ap (λ (y : ℕ). bitXor y (bitSteps 8 (x % 256))) (moves-down 8 (x / 256)))
 
 -- by the table
 pub by-the-table : (table : List ℕ) (x : ℕ) → table ≡ tableOf → bitXor (getD table (x % 256) 0) (x / 256) ≡ bitSteps 8 x
@@ -50,34 +47,35 @@ by-the-table table x e =
     ∙ xor-comm (bitSteps 8 (x % 256)) (x / 256)
     ∙ low-and-high x
 
--- without it: eight steps of a byte, as the polynomial's few digits make them
+-- without it. `spread` has the eight digits that fall out: one of the low four comes back on the one four above it. Each
+-- brings the polynomial's three digits in, 8 and 3 places above its own and 4 below.
 abbrev spread : ℕ → ℕ
 spread x = bitXor x (x * 16 % 256)
 
 abbrev bare : ℕ → ℕ
 bare x = bitXor (spread x * 256) (bitXor (spread x * 8) (spread x / 16))
 
-bare-to : ℕ → Bool
-bare-to zero = true
-bare-to (suc n) = cond (eqb (bare n) (bitSteps 8 n)) (bare-to n) false
+spread-linear : Linear spread
+spread-linear a b =
+    ap (bitXor (bitXor a b)) (ap (λ (x : ℕ). x % 256) (shift-linear 4 a b) ∙ xor-mod (a * 16) (b * 16) 8)
+    ∙ xor-across a b (a * 16 % 256) (b * 16 % 256)
 
-bare-at : (n k : ℕ) → T (bare-to n) → k < n → bare k ≡ bitSteps 8 k
-unfolding bare-to
-bare-at zero k t h = absurd (not-suc-le-zero h)
-bare-at (suc n) k t h =
-    let same = eqb (bare n) (bitSteps 8 n) in
-    ⊎-elim (λ e. subst (λ (m : ℕ). bare m ≡ bitSteps 8 m) (sym e) (eqb→eq (bare n) (bitSteps 8 n) (first same (bare-to n) t)))
-    (λ below. bare-at n k (second same (bare-to n) t) below)
-    (eq-or-lt-of-le (le-of-suc-le-suc h))
+bare-linear : Linear bare
+bare-linear a b =
+    let x = spread a in
+    let y = spread b in
+    ap (λ (s : ℕ). bitXor (s * 256) (bitXor (s * 8) (s / 16))) (spread-linear a b)
+    ∙ ap₂ bitXor (shift-linear 8 x y) (ap₂ bitXor (shift-linear 3 x y) (xor-shr x y 4) ∙ xor-across (x * 8) (y * 8) (x / 16) (y / 16))
+    ∙ xor-across (x * 256) (y * 256) (bitXor (x * 8) (x / 16)) (bitXor (y * 8) (y / 16))
 
--- every byte is tested
-bare-bytes : T (bare-to 256)
-unfolding bare-to bitSteps bitStep
-bare-bytes = tt
+-- both sides are linear, so that it is tested at 0 and at a byte's eight digits
+bare-byte : (x : ℕ) → x < 2 ^ 8 → bare x ≡ bitSteps 8 x
+unfolding bitSteps bitStep
+bare-byte = agree bare (bitSteps 8) bare-linear (bitSteps-linear 8) 8 tt
 
 pub without-the-table : (x : ℕ) → bitXor (x / 256) (bare (x % 256)) ≡ bitSteps 8 x
 without-the-table x =
-    ap (bitXor (x / 256)) (bare-at 256 (x % 256) bare-bytes (mod-lt x (zero-lt-suc 255))) ∙ low-and-high x
+    ap (bitXor (x / 256)) (bare-byte (x % 256) (mod-lt x (zero-lt-suc 255))) ∙ low-and-high x
 
 pub spread-below : (x : ℕ) → spread (x % 256) < 2 ^ 8
 spread-below x = xor-lt 8 (x % 256) (x % 256 * 16 % 256) (mod-lt x (zero-lt-suc 255)) (mod-lt (x % 256 * 16) (zero-lt-suc 255))
@@ -93,11 +91,9 @@ pub half-steps : (k sum word : ℕ) → bitSteps (k + k) (bitXor sum word) ≡ b
 half-steps k sum word =
     let low = word % 2 ^ k in
     let high = word / 2 ^ k in
-    let apart : word ≡ bitXor low (high * 2 ^ k) =
-    sym (split word k) ∙ sym (xor-shifted high k low (mod-lt word (pow-pos k))) ∙ xor-comm (high * 2 ^ k) low in
     steps-add k k (bitXor sum word)
     ∙ ap (bitSteps k)
-    (ap (λ (w : ℕ). bitSteps k (bitXor sum w)) apart
+    (ap (λ (w : ℕ). bitSteps k (bitXor sum w)) (high-and-low k word ∙ xor-comm (high * 2 ^ k) low)
     ∙ ap (bitSteps k) (sym (xor-assoc sum low (high * 2 ^ k)))
     ∙ bitSteps-linear k (bitXor sum low) (high * 2 ^ k)
     ∙ ap (bitXor (bitSteps k (bitXor sum low))) (moves-down k high))

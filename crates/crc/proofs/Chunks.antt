@@ -8,12 +8,12 @@ use lib.Bits.{bitXor, xor-comm, xor-zero-l}
 use lib.ListN.{length, take, drop, length-drop, length-append, take-append-drop}
 use lib.Pow.{pow-mono}
 use lib.Seq.{take-all, length-take-le}
-use Rattle.folding.specs.Folding.{pairs, wordsOf, halvesOf, putOn, folded, foldedThrough, narrowed, lowBytes, reduced}
+use Rattle.folding.specs.Folding.{pairs, wordsOf, halvesOf, putOn, folded, foldedThrough, chunksFolded, narrowed, lowBytes, reduced}
 use Rattle.folding.proofs.Turns.{length-pairs, length-wordsOf, length-halvesOf}
 use Rattle.folding.proofs.Reducing.{length-on, length-folded}
 use Rattle.crc.specs.Sum.{bitSteps, sumFrom}
 use Rattle.crc.proofs.Joining.{sumFrom-append}
-use Rattle.crc.proofs.Words.{sumOver, sumOver-append, bytes-are-words, Below, append-below, part-below, on-below, halves-below, folded-below, pairs-below, halves-have-the-sum, pairs-have-the-sum, folded-has-the-sum, Folds, bytes-fold, halves-fold, words-fold}
+use Rattle.crc.proofs.Words.{sumOver, sumOver-append, bytes-are-words, Below, append-below, take-below, drop-below, on-below, halves-below, folded-below, pairs-below, halves-have-the-sum, pairs-have-the-sum, folded-has-the-sum, Folds, bytes-fold, halves-fold, words-fold}
 
 -- Sixteen words of k bits, with a sum that goes on from 0.
 pub record Sixteen (k : ℕ) (words : List ℕ) (sum : ℕ) : Type 0 where
@@ -83,13 +83,13 @@ all-the-chunks zero sum words [] held size below = held
 all-the-chunks zero sum words (byte ∷ bytes) held size below = absurd (omega (arith, size))
 all-the-chunks (suc n) sum words bytes held size below =
     let chunk = take 64 bytes in
-    let first = one-chunk-more sum words chunk held (length-take-le 64 bytes (omega (arith, size))) (part-below 8 0 64 bytes below) in
+    let first = one-chunk-more sum words chunk held (length-take-le 64 bytes (omega (arith, size))) (take-below 8 64 bytes below) in
     let rest = drop 64 bytes in
     let left : length rest ≡ n * 64 = omega (arith, size, length-drop 64 bytes) in
     subst (Sixteen 32 (foldedThrough (suc n) words bytes))
     (sym (sumFrom-append sum chunk rest) ∙ ap (sumFrom sum) (take-append-drop 64 bytes))
     (all-the-chunks n (sumFrom sum chunk) (folded 16 (words ++ wordsOf chunk)) rest first left
-    (subst (Below 8) (take-all (length rest) rest (omega arith)) (part-below 8 64 (length rest) bytes below)))
+    (drop-below 8 64 bytes below))
 
 -- ---- down to bytes
 
@@ -109,19 +109,19 @@ unfolding Below lowBytes
 bytes-are-low [] h = refl
 bytes-are-low (byte ∷ bytes) h = ap₂ (λ (b : ℕ) (l : List ℕ). b ∷ l) (mod-eq-of-lt (h .0)) (bytes-are-low bytes (h .1))
 
--- Whole chunks have the sum of the sixteen bytes that stand for them.
+-- From any start, whole chunks have the sum that the sixteen bytes which stand for them have from 0.
 pub sixteen-bytes-stand-for-all : (start : ℕ) (bytes : List ℕ) → 64 ≤ length bytes → length bytes % 64 ≡ 0 → Below 8 bytes → start < 2 ^ 16
     → (length (reduced start bytes) ≡ 16) × (sumFrom 0 (reduced start bytes) ≡ sumFrom start bytes)
-unfolding reduced
+unfolding reduced chunksFolded
 sixteen-bytes-stand-for-all start bytes enough whole below fits =
     let chunk = take 64 bytes in
     let rest = drop 64 bytes in
-    let words = foldedThrough (length bytes / 64 - 1) (putOn start 0 (wordsOf chunk)) rest in
+    let words = chunksFolded start bytes in
     let left : length rest ≡ (length bytes / 64 - 1) * 64 = omega (arith, length-drop 64 bytes) in
-    let first = the-first-chunk start chunk (length-take-le 64 bytes enough) (part-below 8 0 64 bytes below) fits in
+    let first = the-first-chunk start chunk (length-take-le 64 bytes enough) (take-below 8 64 bytes below) fits in
     let all =
     all-the-chunks (length bytes / 64 - 1) (sumFrom start chunk) (putOn start 0 (wordsOf chunk)) rest first left
-    (subst (Below 8) (take-all (length rest) rest (omega arith)) (part-below 8 64 (length rest) bytes below)) in
+    (drop-below 8 64 bytes below) in
     let last = down-to-bytes (sumFrom (sumFrom start chunk) rest) words all in
     let same : lowBytes (narrowed words) ≡ narrowed words = bytes-are-low (narrowed words) (last .below) in (
       ap length same ∙ last .size,
@@ -142,7 +142,7 @@ standing-for start bytes enough below fits =
     let n = length bytes / 64 * 64 in
     let lent : take (n - 0) bytes ≡ take n bytes = ap (λ (m : ℕ). take m bytes) (sub-zero n) in
     let size : length (take n bytes) ≡ n = length-take-le n bytes (omega arith) in
-    rw lent (sixteen-bytes-stand-for-all start (take n bytes) (omega (arith, size)) (omega (arith, size)) (part-below 8 0 n bytes below) fits)
+    rw lent (sixteen-bytes-stand-for-all start (take n bytes) (omega (arith, size)) (omega (arith, size)) (take-below 8 n bytes below) fits)
 
 pub standing-size : (start : ℕ) (bytes standing : List ℕ) → 64 ≤ length bytes → Below 8 bytes → start < 2 ^ 16
     → standing ≡ reduced start (take (length bytes / 64 * 64 - 0) bytes) → 16 ≡ length standing

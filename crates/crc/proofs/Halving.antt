@@ -2,15 +2,15 @@
 use mathlib.Core.Path.{_≡_, refl, sym, ap, ap₂, _∙_}
 use mathlib.Core.Bool.{Bool, true, false, cond}
 use Prim.Native.Nat.{ℕ, zero, suc, _+_, _*_, _/_, _%_, _^_, _<_}
-use native.Mathlib.Nat.{not-suc-le-zero, le-of-suc-le-suc, zero-lt-suc, div-add-mod', mod-lt, pow-suc, div-lt-iff-lt-mul, zero-mul, one-mul, mul-comm}
+use native.Mathlib.Nat.{not-suc-le-zero, le-of-suc-le-suc, zero-lt-suc, mod-lt, pow-suc, div-lt-iff-lt-mul, zero-mul, one-mul, mul-comm}
 use native.Mathlib.Omega.{arith}
 use lib.Arith.{lt-one}
 use lib.Dec.{T, eqb, eqb→eq, lit<}
 use lib.Pow.{pow-pos}
-use lib.Bits.{bitXor, xor-shifted, xor-zero-r, xor-comm, xor-lt}
+use lib.Bits.{bitXor, xor-zero-r, xor-comm, xor-lt}
 use Rattle.crc.specs.Sum.{gate, bitStep, bitSteps, byteStep, carried, polynomial}
 use Rattle.crc.specs.Joining.{product, noShift, powerOf}
-use Rattle.crc.proofs.Xor.{bit-cases, xor-half, xor-across}
+use Rattle.crc.proofs.Xor.{bit-cases, xor-half, xor-across, high-and-low}
 use Rattle.crc.proofs.Linear.{gate-linear, bitStep-linear, bitSteps-linear, bitSteps-zero, carried-add}
 
 -- two maps agree at each power of 2 below 2 ^ k
@@ -18,14 +18,14 @@ abbrev agreeing : (ℕ → ℕ) → (ℕ → ℕ) → ℕ → Bool
 agreeing f g zero = eqb (f 0) (g 0)
 agreeing f g (suc k) = cond (eqb (f (2 ^ k)) (g (2 ^ k))) (agreeing f g k) false
 
-abbrev Linear : (ℕ → ℕ) → Type 0
+abbrev pub Linear : (ℕ → ℕ) → Type 0
 Linear f = (a b : ℕ) → f (bitXor a b) ≡ bitXor (f a) (f b)
 
-pub first : (b t : Bool) → T (cond b t false) → T b
+first : (b t : Bool) → T (cond b t false) → T b
 first true t h = tt
 first false t h = h
 
-pub second : (b t : Bool) → T (cond b t false) → T t
+second : (b t : Bool) → T (cond b t false) → T t
 second true t h = h
 second false t h = absurd h
 
@@ -41,19 +41,16 @@ module _ (f g : ℕ → ℕ) (hf : Linear f) (hg : Linear g) where
       rw one-mul (eqb→eq (f (2 ^ k)) (g (2 ^ k)) (first (eqb (f (2 ^ k)) (g (2 ^ k))) (agreeing f g k) t))
   at-top k t (suc (suc q)) h = absurd (not-suc-le-zero (le-of-suc-le-suc (le-of-suc-le-suc h)))
 
-  split : (k a : ℕ) → a ≡ bitXor (a / 2 ^ k * 2 ^ k) (a % 2 ^ k)
-  split k a = sym (div-add-mod' a (2 ^ k)) ∙ sym (xor-shifted (a / 2 ^ k) k (a % 2 ^ k) (mod-lt a (pow-pos k)))
-
-  agree : (k : ℕ) → T (agreeing f g k) → (a : ℕ) → a < 2 ^ k → f a ≡ g a
+  pub agree : (k : ℕ) → T (agreeing f g k) → (a : ℕ) → a < 2 ^ k → f a ≡ g a
   agree zero t a below = ap f (lt-one below) ∙ eqb→eq (f 0) (g 0) t ∙ ap g (sym (lt-one below))
   agree (suc k) t a below =
-      ap f (split k a)
+      ap f (high-and-low k a)
       ∙ hf (a / 2 ^ k * 2 ^ k) (a % 2 ^ k)
       ∙ ap₂ bitXor
       (at-top k t (a / 2 ^ k) (div-lt-iff-lt-mul (pow-pos k) .1 (rw (mul-comm 2 (2 ^ k), ← pow-suc 2 k) below)))
       (agree k (second (eqb (f (2 ^ k)) (g (2 ^ k))) (agreeing f g k) t) (a % 2 ^ k) (mod-lt a (pow-pos k)))
       ∙ sym (hg (a / 2 ^ k * 2 ^ k) (a % 2 ^ k))
-      ∙ ap g (sym (split k a))
+      ∙ ap g (sym (high-and-low k a))
 
 -- ---- the product, in each of its two places
 
@@ -69,7 +66,7 @@ product-linear (suc k) power a b =
     (product-linear k (power / 2) a b)
     ∙ xor-across (bitSteps k (gate a (power % 2))) (bitSteps k (gate b (power % 2))) (product k a (power / 2)) (product k b (power / 2))
 
-pub product-of-xor : (k sum : ℕ) → Linear (product k sum)
+product-of-xor : (k sum : ℕ) → Linear (product k sum)
 unfolding product
 product-of-xor zero sum a b = refl
 product-of-xor (suc k) sum a b =
@@ -147,7 +144,7 @@ product-steps zero sum power hs hp = refl
 product-steps (suc k) sum power hs hp =
     product-steps k sum (bitStep power) hs (step-below power hp) ∙ ap (bitSteps k) (product-step sum power hs hp)
 
-steps-below : (k a : ℕ) → a < 2 ^ 16 → bitSteps k a < 2 ^ 16
+pub steps-below : (k a : ℕ) → a < 2 ^ 16 → bitSteps k a < 2 ^ 16
 unfolding bitSteps
 steps-below zero a h = h
 steps-below (suc k) a h = steps-below k (bitStep a) (step-below a h)
@@ -174,7 +171,7 @@ product-carried (suc n) sum power hs hp =
     ∙ ap (carried n)
     (ap (product 16 sum) (byteStep-zero power) ∙ product-steps 8 sum power hs hp ∙ sym (byteStep-zero (product 16 sum power)))
 
-pub product-one : (sum : ℕ) → product 16 sum noShift ≡ sum
+product-one : (sum : ℕ) → product 16 sum noShift ≡ sum
 unfolding product bitSteps bitStep
 product-one sum = xor-zero-r sum
 

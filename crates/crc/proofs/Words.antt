@@ -1,24 +1,21 @@
--- Sums over words of any width: a word may be given by its halves, and a word that is left out may be put on three others.
--- So what folding leaves of a list has the list's sum. Assumes nothing.
+-- Sums over words: a word may be given by its halves, and a word that is left out may be put on three others, if its width
+-- is a power of 2. So what folding leaves of a list has the list's sum. Assumes nothing.
 use mathlib.Core.Path.{_≡_, refl, sym, ap, ap₂, subst, _∙_}
-use mathlib.Core.List.{List, [], _∷_, _++_, map}
+use mathlib.Core.List.{List, [], _∷_, _++_}
 use Prim.Native.Nat.{ℕ, zero, suc, _+_, _-_, _*_, _/_, _%_, _^_, _≤_, _<_}
-use native.Mathlib.Nat.{mul-assoc, add-mul, le-add-right, le-add-left, lt-of-lt-of-le, zero-mul, suc-mul, sub-zero, zero-sub, suc-sub-suc, zero-lt-suc, zero-add, add-zero, add-suc, suc-add, add-comm, mul-comm, not-suc-le-zero, le-of-suc-le-suc, mod-lt, le-trans}
+use native.Mathlib.Nat.{add-mul, mul-add, le-add-right, le-add-left, lt-of-lt-of-le, zero-mul, suc-mul, zero-lt-suc, add-zero, add-suc, add-comm, mul-comm, mod-lt}
 use native.Mathlib.Omega.{arith}
-use lib.Bits.{bitXor, xor-lt, xor-zero-l, xor-comm, xor-shifted, xor-zero-r}
-use lib.Dec.{lit<}
+use lib.Bits.{bitXor, xor-lt, xor-zero-l, xor-comm, xor-shifted}
 use lib.ListN.{length, take, drop, getD}
-use lib.Seq.{drop-nil}
-use lib.Pow.{pow-pos, pow-mono, shl-lt, shr-lt, split}
+use lib.Pow.{pow-pos, pow-mono, shl-lt, shr-lt}
 use lib.Pow.{low as the-low, high as the-high}
-use Rattle.folding.specs.Folding.{pairs, halvesOf, putOn, folded}
-use Rattle.folding.proofs.Reducing.{length-on}
-use Rattle.crc.specs.Sum.{gate, bitStep, bitSteps, byteStep, sumFrom, carried, polynomial}
-use Rattle.crc.specs.Joining.{product, noShift, powerOf}
-use Rattle.crc.proofs.Xor.{xor-assoc}
-use Rattle.crc.proofs.Linear.{bitSteps-linear, bitSteps-zero}
+use Rattle.folding.specs.Folding.{pairs, halvesOf, putOn, onThree, folded}
+use Rattle.folding.proofs.Reducing.{length-on, length-three}
+use Rattle.crc.specs.Sum.{gate, bitStep, bitSteps, byteStep, sumFrom, polynomial}
+use Rattle.crc.proofs.Xor.{xor-assoc, xor-across, xor-meets}
+use Rattle.crc.proofs.Linear.{bitSteps-linear}
 use Rattle.crc.proofs.ByteSteps.{steps-add, half-steps}
-use Rattle.crc.proofs.Halving.{product-of-xor, product-one, product-carries, byteStep-zero, gate-below, half-below}
+use Rattle.crc.proofs.Halving.{agree, Linear, gate-below, half-below, steps-below}
 
 -- The sum that goes on from another over words of k bits each.
 unfoldable pub sumOver : ℕ → ℕ → List ℕ → ℕ
@@ -61,12 +58,17 @@ unfolding Below
 append-below k [] more h g = g
 append-below k (word ∷ some) more h g = (h .0, append-below k some more (h .1) g)
 
-pub part-below : (k from n : ℕ) (words : List ℕ) → Below k words → Below k (take n (drop from words))
+pub take-below : (k n : ℕ) (words : List ℕ) → Below k words → Below k (take n words)
 unfolding Below
-part-below k from zero words h = tt
-part-below k from (suc n) [] h = subst (Below k) (sym (ap (take (suc n)) (drop-nil from))) tt
-part-below k zero (suc n) (word ∷ words) h = (h .0, part-below k zero n words (h .1))
-part-below k (suc from) (suc n) (word ∷ words) h = part-below k from (suc n) words (h .1)
+take-below k zero words h = tt
+take-below k (suc n) [] h = tt
+take-below k (suc n) (word ∷ words) h = (h .0, take-below k n words (h .1))
+
+pub drop-below : (k n : ℕ) (words : List ℕ) → Below k words → Below k (drop n words)
+unfolding Below
+drop-below k zero words h = h
+drop-below k (suc n) [] h = tt
+drop-below k (suc n) (word ∷ words) h = drop-below k n words (h .1)
 
 pub halves-below : (k : ℕ) (words : List ℕ) → Below (k + k) words → Below k (halvesOf (2 ^ k) words)
 unfolding Below halvesOf
@@ -79,20 +81,17 @@ on-below k word i [] below h = tt
 on-below k word zero (w ∷ words) below h = (xor-lt k w word (h .0) below, h .1)
 on-below k word (suc i) (w ∷ words) below h = (h .0, on-below k word i words below (h .1))
 
-thrice : ℕ → List ℕ → List ℕ
-thrice word words = putOn word 15 (putOn word 10 (putOn word 3 words))
-
-thrice-below : (k word : ℕ) (words : List ℕ) → word < 2 ^ k → Below k words → Below k (thrice word words)
-unfolding thrice
-thrice-below k word words below h =
+three-below : (k word : ℕ) (words : List ℕ) → word < 2 ^ k → Below k words → Below k (onThree word words)
+unfolding onThree
+three-below k word words below h =
     on-below k word 15 (putOn word 10 (putOn word 3 words)) below
     (on-below k word 10 (putOn word 3 words) below (on-below k word 3 words below h))
 
 pub folded-below : (k n : ℕ) (words : List ℕ) → Below k words → Below k (folded n words)
-unfolding folded Below thrice
+unfolding folded Below
 folded-below k zero words h = h
 folded-below k (suc n) [] h = tt
-folded-below k (suc n) (word ∷ words) h = folded-below k n (thrice word words) (thrice-below k word words (h .0) (h .1))
+folded-below k (suc n) (word ∷ words) h = folded-below k n (onThree word words) (three-below k word words (h .0) (h .1))
 
 -- ---- a word put on another
 
@@ -109,7 +108,7 @@ sumOver-linear k a b (word ∷ words) =
     (sym (steps-add k (length words * k) b)
     ∙ ap (λ (n : ℕ). bitSteps n b) (add-comm k (length words * k) ∙ sym (suc-mul (length words) k)))
 
--- n words from place i to the end
+-- a word put on place i, with n words behind that place
 sumOver-on : (k sum word i n : ℕ) (words : List ℕ) → length words ≡ i + suc n
     → sumOver k sum (putOn word i words) ≡ bitXor (sumOver k sum words) (bitSteps (suc n * k) word)
 unfolding putOn sumOver
@@ -124,48 +123,61 @@ sumOver-on k sum word zero n (w ∷ words) e =
     ∙ ap (λ (m : ℕ). bitSteps m word) (add-comm k (length words * k) ∙ sym (suc-mul (length words) k) ∙ ap (λ (m : ℕ). suc m * k) left))
 sumOver-on k sum word (suc i) n (w ∷ words) e = sumOver-on k (bitSteps k (bitXor sum w)) word i n words (omega (arith, e))
 
-length-thrice : (word : ℕ) (words : List ℕ) → length (thrice word words) ≡ length words
-unfolding thrice
-length-thrice word words =
-    length-on word 15 (putOn word 10 (putOn word 3 words)) ∙ length-on word 10 (putOn word 3 words) ∙ length-on word 3 words
-
 -- ---- a word left out, and put on three others
 
--- a gap of bytes as bit steps
-carried-steps : (n a : ℕ) → carried n a ≡ bitSteps (n * 8) a
-unfolding carried bitSteps
-carried-steps zero a = refl
-carried-steps (suc n) a =
-    ap (carried n) (byteStep-zero a)
-    ∙ carried-steps n (bitSteps 8 a)
-    ∙ sym (steps-add 8 (n * 8) a)
-    ∙ ap (λ (m : ℕ). bitSteps m a) (add-comm 8 (n * 8) ∙ sym (suc-mul n 8))
-
--- What the polynomial says of words of k bits: sixteen words on is twelve on, five on, and here.
+-- What the polynomial says of words of k bits, k being a power of 2: any sum moved on by sixteen words is that sum moved on
+-- by twelve, by five and by none, joined by exclusive or.
 abbrev pub Folds : ℕ → Type 0
 Folds k = (sum : ℕ) → sum < 2 ^ 16 → bitSteps (16 * k) sum ≡ bitXor (bitXor (bitSteps (12 * k) sum) (bitSteps (5 * k) sum)) sum
 
--- it says so of words of b bytes, if it does of their powers
-folds : (b : ℕ) → powerOf (16 * b) ≡ bitXor (bitXor (powerOf (12 * b)) (powerOf (5 * b))) noShift → Folds (b * 8)
-folds b e sum below =
-    let on : (n : ℕ) → bitSteps (n * (b * 8)) sum ≡ product 16 sum (powerOf (n * b)) =
-    λ n. ap (λ (m : ℕ). bitSteps m sum) (sym (mul-assoc n b 8)) ∙ sym (carried-steps (n * b) sum) ∙ sym (product-carries (n * b) sum below) in
-    on 16
-    ∙ ap (product 16 sum) e
-    ∙ product-of-xor 16 sum (bitXor (powerOf (12 * b)) (powerOf (5 * b))) noShift
-    ∙ ap₂ bitXor (product-of-xor 16 sum (powerOf (12 * b)) (powerOf (5 * b)) ∙ ap₂ bitXor (sym (on 12)) (sym (on 5))) (product-one sum)
+-- It says so of single bits. Both sides are linear, so that it is tested at 0 and at sixteen digits.
+here : ℕ → ℕ
+here sum = bitXor (bitXor (bitSteps 12 sum) (bitSteps 5 sum)) sum
+
+here-linear : Linear here
+unfolding here
+here-linear a b =
+    ap (λ (x : ℕ). bitXor x (bitXor a b))
+    (ap₂ bitXor (bitSteps-linear 12 a b) (bitSteps-linear 5 a b) ∙ xor-across (bitSteps 12 a) (bitSteps 12 b) (bitSteps 5 a) (bitSteps 5 b))
+    ∙ xor-across (bitXor (bitSteps 12 a) (bitSteps 5 a)) (bitXor (bitSteps 12 b) (bitSteps 5 b)) a b
+
+bits-fold : Folds 1
+unfolding here bitSteps bitStep
+bits-fold = agree (bitSteps 16) here (bitSteps-linear 16) here-linear 16 tt
+
+-- And so of words of twice as many: what is mixed comes twice, and falls out.
+steps-twice : (n k a : ℕ) → bitSteps (n * (k + k)) a ≡ bitSteps (n * k) (bitSteps (n * k) a)
+steps-twice n k a = ap (λ (t : ℕ). bitSteps t a) (mul-add n k k) ∙ steps-add (n * k) (n * k) a
+
+steps-either-way : (m n a : ℕ) → bitSteps m (bitSteps n a) ≡ bitSteps n (bitSteps m a)
+steps-either-way m n a = sym (steps-add n m a) ∙ ap (λ (t : ℕ). bitSteps t a) (add-comm n m) ∙ steps-add m n a
+
+doubled : (k : ℕ) → Folds k → Folds (k + k)
+doubled k holds sum below =
+    let on : ℕ → ℕ → ℕ = λ n. bitSteps (n * k) in
+    let a = on 12 sum in
+    let b = on 5 sum in
+    steps-twice 16 k sum
+    ∙ ap (on 16) (holds sum below)
+    ∙ bitSteps-linear (16 * k) (bitXor a b) sum
+    ∙ ap₂ bitXor
+    (bitSteps-linear (16 * k) a b
+    ∙ ap₂ bitXor
+    (holds a (steps-below (12 * k) sum below) ∙ ap (λ (t : ℕ). bitXor (bitXor (on 12 a) t) a) (steps-either-way (5 * k) (12 * k) sum))
+    (holds b (steps-below (5 * k) sum below))
+    ∙ xor-across (bitXor (on 12 a) (on 12 b)) a (bitXor (on 12 b) (on 5 b)) b)
+    (holds sum below)
+    ∙ xor-meets (bitXor (bitXor (on 12 a) (on 12 b)) (bitXor (on 12 b) (on 5 b))) (bitXor a b) sum
+    ∙ ap (λ (t : ℕ). bitXor t sum) (xor-meets (on 12 a) (on 12 b) (on 5 b) ∙ ap₂ bitXor (sym (steps-twice 12 k sum)) (sym (steps-twice 5 k sum)))
 
 pub bytes-fold : Folds 8
-unfolding powerOf carried byteStep bitSteps bitStep
-bytes-fold = folds 1 refl
+bytes-fold = doubled 4 (doubled 2 (doubled 1 bits-fold))
 
 pub halves-fold : Folds 16
-unfolding powerOf carried byteStep bitSteps bitStep
-halves-fold = folds 2 refl
+halves-fold = doubled 8 bytes-fold
 
 pub words-fold : Folds 32
-unfolding powerOf carried byteStep bitSteps bitStep
-words-fold = folds 4 refl
+words-fold = doubled 16 halves-fold
 
 -- a word is a sum of 16 bits once it has gone through
 through-below : (k word : ℕ) → word < 2 ^ (16 + k) → bitSteps k word < 2 ^ 16
@@ -184,9 +196,9 @@ module _ (k : ℕ) (holds : Folds k) where
       ∙ steps-add k (m * k + n * k) word
       ∙ steps-add (m * k) (n * k) (bitSteps k word)
 
-  fold-turn : (word : ℕ) (words : List ℕ) → word < 2 ^ k → 16 ≤ length words → sumOver k 0 (thrice word words) ≡ sumOver k 0 (word ∷ words)
-  unfolding thrice sumOver bitSteps
-  fold-turn word words below enough =
+  one-left-out : (word : ℕ) (words : List ℕ) → word < 2 ^ k → 16 ≤ length words → sumOver k 0 (onThree word words) ≡ sumOver k 0 (word ∷ words)
+  unfolding onThree sumOver bitSteps
+  one-left-out word words below enough =
       let n = length words - 16 in
       let sum = sumOver k 0 words in
       let gone = bitSteps k word in
@@ -212,14 +224,14 @@ module _ (k : ℕ) (holds : Folds k) where
       ∙ sym (sumOver-linear k 0 gone words)
       ∙ ap (λ (t : ℕ). sumOver k t words) (xor-zero-l gone ∙ ap (bitSteps k) (sym (xor-zero-l word)))
 
-  -- what folding leaves has the list's sum
+  -- what folding leaves has the list's sum, from 0
   pub folded-has-the-sum : (n : ℕ) (words : List ℕ) → Below k words → n + 16 ≤ length words → sumOver k 0 (folded n words) ≡ sumOver k 0 words
-  unfolding folded Below thrice
+  unfolding folded Below
   folded-has-the-sum zero words h enough = refl
   folded-has-the-sum (suc n) [] h enough = absurd (omega (arith, enough))
   folded-has-the-sum (suc n) (word ∷ words) h enough =
-      folded-has-the-sum n (thrice word words) (thrice-below k word words (h .0) (h .1)) (rw length-thrice (omega (arith, enough)))
-      ∙ fold-turn word words (h .0) (omega (arith, enough))
+      folded-has-the-sum n (onThree word words) (three-below k word words (h .0) (h .1)) (rw length-three (omega (arith, enough)))
+      ∙ one-left-out word words (h .0) (omega (arith, enough))
 
 -- ---- the words of a list of bytes
 

@@ -1,4 +1,6 @@
-// The CRC of the Nanosatellite Protocol (ICD 10.8) and the joining of sums (01, "The message").
+// The CRC of the Nanosatellite Protocol (ICD 10.8) and the joining of sums (01, "The message"). There are three ways to sum:
+// what is shorter than a chunk by the table (`by_table`); whole chunks by folding, and the sixteen bytes that it leaves by
+// shifts (`few`); what is left behind whole chunks by the table again (`by_chunks`).
 mod table;
 
 use folding::CHUNK;
@@ -32,7 +34,8 @@ fn step(table: &[u16; 256], sum: u16, byte: u8) -> u16
     table[at] ^ (mixed >> 8)
 }
 
-// A sum after two more bytes. The high byte of a sum only moves down, so both are mixed in at once.
+// A sum after two more bytes. The high byte of a sum only moves down, so both are mixed in at once; and of what the first
+// step makes, only the table's entry has a high byte left.
 fn step_two(table: &[u16; 256], sum: u16, low: u8, high: u8) -> u16
     requires { ⌜ now table ≡ tableOf ⌝ }
     ensures { λ r. ⌜ r ≡ byteStep (byteStep sum low) high ⌝ }
@@ -62,15 +65,17 @@ fn over(table: &[u16; 256], start: u16, bytes: &[u8]) -> u16
     sum
 }
 
-// The sum of `bytes` that goes on from `start`, byte by byte with the table.
-fn bytewise(start: u16, bytes: &[u8]) -> u16
+// The sum of `bytes` that goes on from `start`, by the table.
+fn by_table(start: u16, bytes: &[u8]) -> u16
     ensures { λ r. ⌜ r ≡ sumFrom start (now (bytes .entry)) ⌝ }
 {
     let table = TABLE;
     over(&table, start, bytes)
 }
 
-// A sum after one more byte, with no table: for a few bytes shifts are cheaper than to copy one.
+// A sum after one more byte, with no table: for a few bytes shifts are cheaper than to copy one. `spread` has the eight
+// digits that fall out: one of the low four comes back on the one four above it. Each brings the polynomial's three digits
+// in, 8 and 3 places above its own and 4 below.
 fn step_bare(sum: u16, byte: u8) -> u16
     ensures { λ r. ⌜ r ≡ byteStep sum byte ⌝ }
 {
@@ -101,10 +106,11 @@ fn by_chunks(start: u16, bytes: &[u8]) -> u16
     let whole = bytes.len() / CHUNK * CHUNK;
     let standing = reduce(start, &bytes[0..whole]);
     let chunks = few(&standing);
+    // Where nothing is left, the table need not be copied.
     if bytes.len() <= whole {
         return chunks;
     }
-    bytewise(chunks, &bytes[whole..])
+    by_table(chunks, &bytes[whole..])
 }
 
 // The sum of `bytes` that goes on from `start`.
@@ -112,18 +118,19 @@ pub fn sum_from(start: u16, bytes: &[u8]) -> u16
     ensures { λ r. ⌜ r ≡ sumFrom start (now (bytes .entry)) ⌝ }
 {
     if bytes.len() < CHUNK {
-        return bytewise(start, bytes);
+        return by_table(start, bytes);
     }
     by_chunks(start, bytes)
 }
 
-// The sum of `bytes`. It could be `sum_from` of the start value. But `by_chunks`, called from two places, stays a function
-// of its own in the compiled code, and the sum of a short message then saves no registers for it.
+// The sum of `bytes`. It could be `sum_from` of the start value; but `by_chunks`, called from two places, stays a function
+// of its own in the compiled code, and the sum of a short message then pushes no registers for it (20 instructions on
+// x86-64; the compiler's choice, no promise).
 pub fn sum(bytes: &[u8]) -> u16
     ensures { λ r. ⌜ r ≡ sumOf (now (bytes .entry)) ⌝ }
 {
     if bytes.len() < CHUNK {
-        return bytewise(START, bytes);
+        return by_table(START, bytes);
     }
     by_chunks(START, bytes)
 }

@@ -8,12 +8,12 @@ use native.Mathlib.Omega.{arith}
 use lib.Bits.{bitXor}
 use lib.ListN.{length, take, drop, set, getD, length-drop, drop-of-length-le}
 use lib.Seq.{paste, paste-suc, take-all, drop-paste, getD-drop, drop-drop, drop-set-add}
-use Rattle.folding.specs.Folding.{pairs, wordsOf, halvesOf, putOn, folded, lowBytes}
+use Rattle.folding.specs.Folding.{pairs, wordsOf, wordAt, halvesOf, putOn, onThree, folded, lowBytes}
 
 -- ---- a copy of s into d, whose first i entries are in place
 
 -- A value is stored at the next place.
-pub copy-turn : (d : List ℕ) (at : ℕ) (s : List ℕ) (i : ℕ) (l : List ℕ) (j v : ℕ) → at + length s ≤ length d → i < length s
+copy-turn : (d : List ℕ) (at : ℕ) (s : List ℕ) (i : ℕ) (l : List ℕ) (j v : ℕ) → at + length s ≤ length d → i < length s
     → l ≡ paste d at s i → j ≡ at + i → v ≡ getD s i 0 → set l j v ≡ paste d at s (i + 1)
 copy-turn d at s i l j v fits h el ej ev =
     ap (λ x. set x j v) el
@@ -23,7 +23,7 @@ copy-turn d at s i l j v fits h el ej ev =
     ∙ ap (paste d at s) (sym (add-one i))
 
 -- An entry behind what is copied is the old one.
-pub copy-behind : (d : List ℕ) (at : ℕ) (s : List ℕ) (i : ℕ) (l : List ℕ) (j : ℕ) → at + length s ≤ length d → i ≤ length s → at + i ≤ j
+copy-behind : (d : List ℕ) (at : ℕ) (s : List ℕ) (i : ℕ) (l : List ℕ) (j : ℕ) → at + length s ≤ length d → i ≤ length s → at + i ≤ j
     → l ≡ paste d at s i → getD l j 0 ≡ getD d j 0
 copy-behind d at s i l j fits h k e =
     let far : at + i + (j - (at + i)) ≡ j = add-sub-of-le k in
@@ -58,7 +58,7 @@ length-pairs base (low ∷ []) n h = omega arith
 length-pairs base (low ∷ high ∷ rest) zero h = omega arith
 length-pairs base (low ∷ high ∷ rest) (suc n) h = ap suc (length-pairs base rest n (omega arith))
 
-pub getD-pairs : (base : ℕ) (l : List ℕ) (i : ℕ) → i * 2 + 1 < length l
+getD-pairs : (base : ℕ) (l : List ℕ) (i : ℕ) → i * 2 + 1 < length l
     → getD (pairs base l) i 0 ≡ getD l (i * 2) 0 + base * getD l (i * 2 + 1) 0
 unfolding pairs
 getD-pairs base [] i h = absurd (not-suc-le-zero h)
@@ -80,9 +80,8 @@ pub length-wordsOf : (bytes : List ℕ) (n : ℕ) → length bytes ≡ n * 4 →
 unfolding wordsOf
 length-wordsOf bytes n h = length-pairs 65536 (pairs 256 bytes) n (length-pairs 256 bytes (n * 2) (omega arith))
 
-pub getD-wordsOf : (bytes : List ℕ) (n i : ℕ) → length bytes ≡ n * 4 → i < n
-    → getD (wordsOf bytes) i 0
-    ≡ (getD bytes (i * 4) 0 + 256 * getD bytes (i * 4 + 1) 0) + 65536 * (getD bytes (i * 4 + 2) 0 + 256 * getD bytes (i * 4 + 3) 0)
+getD-wordsOf : (bytes : List ℕ) (n i : ℕ) → length bytes ≡ n * 4 → i < n
+    → getD (wordsOf bytes) i 0 ≡ wordAt bytes (i * 4)
 unfolding wordsOf
 getD-wordsOf bytes n i size h =
     let two : length (pairs 256 bytes) ≡ n * 2 = length-pairs 256 bytes (n * 2) (omega arith) in
@@ -101,7 +100,7 @@ unfolding halvesOf
 length-halvesOf base [] = refl
 length-halvesOf base (word ∷ words) = let rest : length (halvesOf base words) ≡ length words * 2 = length-halvesOf base words in omega arith
 
-pub getD-halvesOf : (base : ℕ) (l : List ℕ) (i : ℕ) → i < length l
+getD-halvesOf : (base : ℕ) (l : List ℕ) (i : ℕ) → i < length l
     → (getD (halvesOf base l) (i * 2) 0 ≡ getD l i 0 % base) × (getD (halvesOf base l) (i * 2 + 1) 0 ≡ getD l i 0 / base)
 unfolding halvesOf
 getD-halvesOf base [] i h = absurd (not-suc-le-zero h)
@@ -135,7 +134,7 @@ lower-turn d half i l size h e =
     (copy-upper d (drop half d) i l half i (omega arith) (omega arith) (omega arith) e)
 
 pub load-turn : (d bytes : List ℕ) (half i : ℕ) (l : List ℕ) (word : ℕ) → length d ≡ half + half → length bytes ≡ half * 4 → i < half
-    → word ≡ (getD bytes (i * 4) 0 + 256 * getD bytes (i * 4 + 1) 0) + 65536 * (getD bytes (i * 4 + 2) 0 + 256 * getD bytes (i * 4 + 3) 0)
+    → word ≡ wordAt bytes (i * 4)
     → l ≡ paste d half (wordsOf bytes) i → set l (i + half) word ≡ paste d half (wordsOf bytes) (i + 1)
 load-turn d bytes half i l word size four h ew e =
     let words : length (wordsOf bytes) ≡ half = length-wordsOf bytes half four in
@@ -186,7 +185,7 @@ low-turn d words half i l room size h e =
 -- ---- a fold, at any length: past the end a store does nothing, and there is nothing to put a word on
 
 -- A list with a word put on its entry `at` by a store.
-abbrev pub put : ℕ → List ℕ → ℕ → List ℕ
+abbrev put : ℕ → List ℕ → ℕ → List ℕ
 put word l at = set l at (bitXor (getD l at 0) word)
 
 put-is-putOn : (word i : ℕ) (l : List ℕ) → put word l i ≡ putOn word i l
@@ -209,14 +208,15 @@ unfolding folded
 folded-nil zero = refl
 folded-nil (suc n) = refl
 
-fold-first : (n : ℕ) (l : List ℕ) → folded (suc n) l ≡ folded n (putOn (getD l 0 0) 15 (putOn (getD l 0 0) 10 (putOn (getD l 0 0) 3 (drop 1 l))))
-unfolding folded putOn
+fold-first : (n : ℕ) (l : List ℕ) → folded (suc n) l ≡ folded n (onThree (getD l 0 0) (drop 1 l))
+unfolding folded onThree putOn
 fold-first n [] = sym (folded-nil n)
 fold-first n (word ∷ words) = refl
 
 pub fold-turn : (n i : ℕ) (l : List ℕ) → i < n
     → folded (n - (i + 1)) (drop (i + 1) (put (getD l i 0) (put (getD l i 0) (put (getD l i 0) l (i + 4)) (i + 11)) (i + 16)))
     ≡ folded (n - i) (drop i l)
+unfolding onThree
 fold-turn n i l h =
     let word : ℕ = getD l i 0 in
     let left : ℕ = n - (i + 1) in
@@ -226,7 +226,7 @@ fold-turn n i l h =
     let two = put-turn (i + 1) _ _ (i + 11) 10 word (omega arith) one in
     let three = put-turn (i + 1) _ _ (i + 16) 15 word (omega arith) two in
     ap (folded left) three
-    ∙ ap (λ w. folded left (putOn w 15 (putOn w 10 (putOn w 3 (drop 1 (drop i l)))))) first
+    ∙ ap (λ w. folded left (onThree w (drop 1 (drop i l)))) first
     ∙ sym (fold-first left (drop i l))
     ∙ ap (λ k. folded k (drop i l)) more
 

@@ -1,11 +1,12 @@
-// Many bytes of a CRC at once, by words of 32 bits and exclusive or alone. The polynomial says that x^16 is
-// x^12 + x^5 + 1; squared again and again, it says the same of the powers of x^8, of x^16 and of x^32. So a word may be
-// left out of a list, if it is put on the words 4, 11 and 16 places after it. What that leaves of a sum is said in crc.
+// Many bytes of a CRC at once, by words of 32 bits and exclusive or alone. Modulo the polynomial x^16 is x^12 + x^5 + 1.
+// Squared again and again (with no mixed terms, since 1 + 1 is 0), that says the same of x^8, of x^16 and of x^32 in the
+// place of x. So a word of 8, 16 or 32 bits may be left out of a list, if it is put on the words 16 - 12, 16 - 5 and 16
+// places after it. That the sum stays the same is proved in crc (`sixteen-bytes-stand-for-all`).
 ghost use mathlib.Core.Path.{_≡_};
 ghost use mathlib.Core.List.{_++_};
-ghost use Prim.Native.Nat.{_+_, _*_, _%_, _≤_, _<_};
-ghost use lib.ListN.{length, take, drop, getD};
-ghost use Rattle.folding.specs.Folding.{wordsOf, halvesOf, folded, lowBytes, reduced};
+ghost use Prim.Native.Nat.{_+_, _%_, _≤_, _<_};
+ghost use lib.ListN.{length, take, drop};
+ghost use Rattle.folding.specs.Folding.{wordsOf, wordAt, halvesOf, folded, lowBytes, reduced};
 
 // How many words a fold leaves: half of what it is given.
 const LEFT: usize = 16;
@@ -13,8 +14,10 @@ const LEFT: usize = 16;
 // How many bytes those are.
 pub const CHUNK: usize = 64;
 
-// Of an array behind a reference a proof knows the length once it is lent as a slice. So `whole`, below, is never read.
+// `whole`, below, is never read: it is there for the proof, which knows the length of an array behind a reference once
+// that is lent as a slice.
 
+// A function of its own, so that the proof of `word` knows that it is below 256.
 fn wide(byte: u8) -> u32
     ensures { λ r. ⌜ (r ≡ byte) × (r < 256) ⌝ }
 {
@@ -24,14 +27,14 @@ fn wide(byte: u8) -> u32
 // The word at a place, its low byte first.
 fn word(bytes: &[u8], at: usize) -> u32
     requires { ⌜ at + 4 ≤ length (now bytes) ⌝ }
-    ensures { λ r. ⌜ r ≡ (getD (now (bytes .entry)) at 0 + 256 * getD (now (bytes .entry)) (at + 1) 0) + 65536 * (getD (now (bytes .entry)) (at + 2) 0 + 256 * getD (now (bytes .entry)) (at + 3) 0) ⌝ }
+    ensures { λ r. ⌜ r ≡ wordAt (now (bytes .entry)) at ⌝ }
 {
     let low = wide(bytes[at]) + 256 * wide(bytes[at + 1]);
     let three = low + 65536 * wide(bytes[at + 2]);
     three + 16777216 * wide(bytes[at + 3])
 }
 
-// Moves the upper half down.
+// Copies the upper half over the lower.
 fn lower(words: &mut [u32; 32])
     ensures { λ _. ⌜ now (words .exit) ≡ drop 16 (now (words .entry)) ++ drop 16 (now (words .entry)) ⌝ }
 {
@@ -56,7 +59,7 @@ fn load(words: &mut [u32; 32], chunk: &[u8])
     }
 }
 
-// Leaves the lower half out, word by word, and puts each on those after it. The lower half is then of no use.
+// Leaves the lower half out, word by word, and puts each on three of those after it. The lower half is then of no use.
 fn fold(words: &mut [u32; 32])
     ensures { λ _. ⌜ drop 16 (now (words .exit)) ≡ folded 16 (now (words .entry)) ⌝ }
 {
@@ -70,7 +73,8 @@ fn fold(words: &mut [u32; 32])
     }
 }
 
-// Spreads the upper half over the whole, each word as two digits of base `base`, the low one first.
+// Spreads the upper half over the whole, each word as two digits of base `base`, the low one first. None is overwritten
+// before it is read: i * 2 + 1 is at most i + LEFT.
 fn halve(words: &mut [u32; 32], base: u32)
     requires { ⌜ 0 < base ⌝ }
     ensures { λ _. ⌜ now (words .exit) ≡ halvesOf base (drop 16 (now (words .entry))) ⌝ }
@@ -99,7 +103,7 @@ fn low_bytes(words: &[u32; 32]) -> [u8; 16]
     low
 }
 
-// Sixteen bytes in the place of whole chunks. While there are chunks, the upper half of `words` stands for those before;
+// Sixteen bytes that stand for whole chunks. While there are chunks, the upper half of `words` stands for those before;
 // each chunk's words come behind them, and all are folded.
 pub fn reduce(start: u16, bytes: &[u8]) -> [u8; 16]
     requires { ⌜ (64 ≤ length (now bytes)) × (length (now bytes) % 64 ≡ 0) ⌝ }

@@ -33,21 +33,21 @@ returns : tie.Need-returns
 returns c =
     all-in-chunks (c .before .before .before .before .before .before .args .start) _ (c .before .before .before .before .before .before .args .bytes .now) (c .before .before .before .reduce .result) (omega arith) (each-below 8 (c .before .before .before .before .before .before .args .bytes .now) (λ i _. c .before .before .before .before .before .shared-slice-known .given i .fits)) (c .before .before .before .before .before .before .fits .start .fits) (c .before .before .before .reduce .ensures) (c .before .few .ensures) (c .if1 .taken)
 
-sub-bytewise : tie.Need-sub-bytewise
-sub-bytewise c = search needs
+sub-by-table : tie.Need-sub-by-table
+sub-by-table c = search needs
 
-part-bytewise-start : tie.Need-part-bytewise-start
-part-bytewise-start c = search needs
+part-by-table-start : tie.Need-part-by-table-start
+part-by-table-start c = search needs
 
-part-bytewise-end : tie.Need-part-bytewise-end
-part-bytewise-end c = search needs
+part-by-table-end : tie.Need-part-by-table-end
+part-by-table-end c = search needs
 
-bytewise-requires : tie.Need-bytewise-requires
-bytewise-requires c κs = search needs
+by-table-requires : tie.Need-by-table-requires
+by-table-requires c κs = search needs
 
 returns-2 : tie.Need-returns-2
 returns-2 c =
-    chunks-and-more (c .before .before .before .before .before .before .before .before .args .start) (c .before .before .before .few .result) _ (c .before .before .before .before .before .before .before .before .args .bytes .now) (c .before .before .before .before .before .reduce .result) (omega arith) (each-below 8 (c .before .before .before .before .before .before .before .before .args .bytes .now) (λ i _. c .before .before .before .before .before .before .before .shared-slice-known .given i .fits)) (c .before .before .before .before .before .before .before .before .fits .start .fits) (c .before .before .before .before .before .reduce .ensures) (c .before .before .before .few .ensures) (c .bytewise .ensures)
+    chunks-and-more (c .before .before .before .before .before .before .before .before .args .start) (c .before .before .before .few .result) _ (c .before .before .before .before .before .before .before .before .args .bytes .now) (c .before .before .before .before .before .reduce .result) (omega arith) (each-below 8 (c .before .before .before .before .before .before .before .before .args .bytes .now) (λ i _. c .before .before .before .before .before .before .before .shared-slice-known .given i .fits)) (c .before .before .before .before .before .before .before .before .fits .start .fits) (c .before .before .before .before .before .reduce .ensures) (c .before .before .before .few .ensures) (c .by-table .ensures)
 
 pub by-chunks-spec : {M : Type 1} → statement M
 by-chunks-spec =
@@ -61,8 +61,8 @@ by-chunks-spec =
     slice-aggregate-few
     few-requires
     returns
-    sub-bytewise
-    part-bytewise-start
-    part-bytewise-end
-    bytewise-requires
+    sub-by-table
+    part-by-table-start
+    part-by-table-end
+    by-table-requires
     returns-2)

@@ -4,12 +4,12 @@ use Rattle.crc.specs.Sum.{sumOf}
 use Rattle.crc.proofs.sum.Statement.{statement}
 use Rattle.crc.proofs.sum.Tie as tie
 
-bytewise-requires : tie.Need-bytewise-requires
-bytewise-requires c κs = search needs
+by-table-requires : tie.Need-by-table-requires
+by-table-requires c κs = search needs
 
 returns : tie.Need-returns
 unfolding sumOf
-returns c = c .bytewise .ensures
+returns c = c .by-table .ensures
 
 by-chunks-requires : tie.Need-by-chunks-requires
 by-chunks-requires c κs = search needs
@@ -19,4 +19,4 @@ unfolding sumOf
 returns-2 c = c .by-chunks .ensures
 
 pub sum-spec : {M : Type 1} → statement M
-sum-spec = tie.close (tie.spec bytewise-requires returns by-chunks-requires returns-2)
+sum-spec = tie.close (tie.spec by-table-requires returns by-chunks-requires returns-2)

@@ -3,9 +3,9 @@
 use mathlib.Core.Path.{_≡_, refl, ap, _∙_}
 use Prim.Native.Nat.{_-_, _/_, _%_, _≤_}
 use native.Mathlib.Omega.{arith}
-use lib.ListN.{length, take, drop}
+use lib.ListN.{length, drop}
 use lib.Seq.{length-take-le}
-use Rattle.folding.specs.Folding.{wordsOf, putOn, foldedThrough}
+use Rattle.folding.specs.Folding.{foldedThrough, chunksFolded}
 use Rattle.folding.proofs.Reducing.{chunk-size, chunks-start, chunks-turn, chunks-end}
 use Rattle.folding.proofs.reduce.Statement.{statement}
 use Rattle.folding.proofs.reduce.Tie as tie
@@ -15,8 +15,7 @@ Inv-loop start bytes words₀ at₀ words at =
     (at ≤ length bytes)
     × (at % 64 ≡ 0)
     × (length (drop 16 words) ≡ 16)
-    × (foldedThrough ((length bytes - at) / 64) (drop 16 words) (drop at bytes)
-    ≡ foldedThrough (length bytes / 64 - 1) (putOn start 0 (wordsOf (take 64 bytes))) (drop 64 bytes))
+    × (foldedThrough ((length bytes - at) / 64) (drop 16 words) (drop at bytes) ≡ chunksFolded start bytes)
 
 abbrev μ-loop : tie.MeasureT-loop
 μ-loop start bytes words₀ at₀ words at = length bytes - at
@@ -95,9 +94,20 @@ low-bytes-requires c κs = tt
 
 returns : tie.Need-returns Inv-loop μ-loop
 returns c =
-    let far = c .before .before .before .before .before .before .before .before .before .before .before .loop .inv in
+    let far = c .before .before .before .before .before .before .before .before .before .before .before .loop in
+    let given = c .before .before .before .before .before .before .before .before .before .before .before .before .before .before .before .before .args in
+    let halves = c .before .before .before .before .before .before .before .before .halve in
+    let after = c .before .before .before .before .before .before .fold2 in
+    let parts = c .before .before .before .before .halve2 in
+    let last = c .before .before .fold3 in
     c .low-bytes .ensures
-    ∙ chunks-end (c .before .before .before .before .before .before .before .before .before .before .before .before .before .before .before .before .args .start) (c .before .before .before .before .before .before .before .before .before .before .before .loop .at) (c .before .before .before .before .before .before .before .before .before .before .before .before .before .before .before .before .args .bytes .now) (c .before .before .before .before .before .before .before .before .before .before .before .loop .words) (c .before .before .before .before .before .before .before .before .halve .last .0) (c .before .before .before .before .before .before .fold2 .last .0) (c .before .before .before .before .halve2 .last .0) (c .before .before .fold3 .last .0) (c .before .before .before .before .before .before .before .before .before .before .loop-test .left) (far .3) (c .before .before .before .before .before .before .before .before .halve .ensures) (c .before .before .before .before .before .before .fold2 .ensures) (c .before .before .before .before .halve2 .ensures) (c .before .before .fold3 .ensures)
+    ∙ chunks-end (given .start) (far .at) (given .bytes .now) (far .words) (halves .last .0) (after .last .0) (parts .last .0) (last .last .0)
+    (c .before .before .before .before .before .before .before .before .before .before .loop-test .left)
+    (far .inv .3)
+    (halves .ensures)
+    (after .ensures)
+    (parts .ensures)
+    (last .ensures)
 
 pub reduce-spec : {M : Type 1} → statement M
 reduce-spec =
