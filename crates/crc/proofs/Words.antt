@@ -145,7 +145,7 @@ bits-fold : Folds 1
 unfolding here bitSteps bitStep
 bits-fold = agree (bitSteps 16) here (bitSteps-linear 16) here-linear 16 tt
 
--- And so of words of twice as many: what is mixed comes twice, and falls out.
+-- And so of words of twice as many bits: what is mixed comes twice, and falls out.
 steps-twice : (n k a : ℕ) → bitSteps (n * (k + k)) a ≡ bitSteps (n * k) (bitSteps (n * k) a)
 steps-twice n k a = ap (λ (t : ℕ). bitSteps t a) (mul-add n k k) ∙ steps-add (n * k) (n * k) a
 
