@@ -14,7 +14,9 @@ use Rattle.line.specs.Receiver.{opened}
 use Rattle.line.proofs.Laying.{a-short-reply-buffer-is-refused, a-short-message-is-refused, a-long-message-is-refused, a-message-of-legal-length-is-packed}
 use Rattle.field.specs.Fields.{bytes16, bytes32}
 use Rattle.memory.specs.Bytes.{stretch, begun}
+use Rattle.read_only.specs.ReadOnly.{KeepsReadOnly}
 use Rattle.memory.proofs.Tests.{either-side}
+use Rattle.read_only.proofs.Keeping.{kept-at-first, also-kept}
 use Rattle.blocks.specs.Fram.{Kept, kept, freshSums}
 use Rattle.carrying.specs.Ending.{done}
 use Rattle.carrying.specs.Held.{Held}
@@ -41,7 +43,8 @@ use Rattle.demands.proofs.DemandOne.{what-every-answer-leaves, what-set-up-leav
 use Rattle.demands.proofs.DemandTwo.{a-packed-message-stands-in-the-buffer}
 use Rattle.demands.proofs.Orders.{a-sent-command-is-carried-out, a-command-that-is-done-sends-its-data}
 use Rattle.demands.proofs.DemandThree.{after-any-calls-the-sums-are-right, the-CRC-sent-is-fresh}
-use Rattle.c_demands.specs.FromC.{FromC, Steps, SetsUp, callOf, callsOf, LeavesInC, OnTheLine, Packs, bytesFromC, toBeSent, numbersOf, Follow, lastUnit, lastMemory}
+use Rattle.demands.proofs.Keeping.{a-step-keeps-read-only-bytes, a-set-up-keeps-edac}
+use Rattle.c_demands.specs.FromC.{FromC, Steps, SetsUp, callOf, callsOf, LeavesInC, OnTheLine, Packs, bytesFromC, toBeSent, numbersOf, Follow, lastUnit, lastMemory, AnyFromC, setting-up, stepping, OnOneEdac, lastEdac}
 
 -- ---- lists
 
@@ -265,3 +268,19 @@ module _ (address : ℕ) (lent : World) (back : WheelStepped) (after : World) (s
       (sym now)
       (λ inside sent fram sums. the-CRC-sent-is-fresh address lent fits (asLending calls) (callsOf sending) (callOf c) message source control first last inside sent fram sums code polled)
       range sends its-fram its-sums
+
+-- ---- 02, T-02
+
+-- Let nothing but calls of `wheel_set_up` and `wheel_step` change EDAC memory, with whatever records, bytes and buffers, refused or not. After
+-- any of them it is as long as it was, and each of its read-only bytes has the value that it had.
+pub no-bytes-from-C-change-a-read-only-byte : (edac : List ℕ) (calls : List AnyFromC) → OnOneEdac edac calls → KeepsReadOnly edac (lastEdac edac calls)
+no-bytes-from-C-change-a-read-only-byte edac [] on = kept-at-first edac
+no-bytes-from-C-change-a-read-only-byte edac (setting-up address lent back after ∷ calls) on =
+    let same : after .edac ≡ edac = ap (λ (r : Returned). r .world .edac) (on .1) ∙ a-set-up-keeps-edac address lent ∙ on .0 in
+    also-kept (subst (KeepsReadOnly edac) (sym same) (kept-at-first edac)) (no-bytes-from-C-change-a-read-only-byte (after .edac) calls (on .2))
+no-bytes-from-C-change-a-read-only-byte edac (stepping u c ∷ calls) on =
+    let kept-so = a-step-keeps-read-only-bytes (unitIn u) (c .byte) (c .lent) in
+    also-kept
+    (subst (λ before. KeepsReadOnly before (c .left .edac)) (on .0)
+    (subst (KeepsReadOnly (c .lent .edac)) (sym (ap (λ (w : World). w .edac) (left u c (on .1)))) kept-so))
+    (no-bytes-from-C-change-a-read-only-byte (c .left .edac) calls (on .2))

@@ -94,3 +94,23 @@ lastUnit u (c ∷ calls) = lastUnit (c .back .unit) calls
 abbrev pub lastMemory : Kept → List FromC → Kept
 lastMemory memory [] = memory
 lastMemory memory (c ∷ calls) = lastMemory (kept (c .left .fram) (c .left .sums)) calls
+
+-- ---- 02, T-02: any calls on one EDAC memory
+
+-- A call of `wheel_set_up`, with its address, what was lent, what came back and what was lent as the call left it; or one of `wheel_step`,
+-- with its record.
+pub data AnyFromC : Type 0 where
+  setting-up : ℕ → World → WheelStepped → World → AnyFromC
+  stepping : WheelUnit → FromC → AnyFromC
+
+-- Each call is lent EDAC memory as the one before left it; all else may be anything, of any length, and another record at each call.
+abbrev pub OnOneEdac : List ℕ → List AnyFromC → Type 0
+OnOneEdac edac [] = Prim.Unit {0}
+OnOneEdac edac (setting-up address lent back left ∷ calls) = (lent .edac ≡ edac) × SetsUp address lent back left × OnOneEdac (left .edac) calls
+OnOneEdac edac (stepping u c ∷ calls) = (c .lent .edac ≡ edac) × Steps u c × OnOneEdac (c .left .edac) calls
+
+-- EDAC memory as the last of them leaves it.
+abbrev pub lastEdac : List ℕ → List AnyFromC → List ℕ
+lastEdac edac [] = edac
+lastEdac edac (setting-up address lent back left ∷ calls) = lastEdac (left .edac) calls
+lastEdac edac (stepping u c ∷ calls) = lastEdac (c .left .edac) calls

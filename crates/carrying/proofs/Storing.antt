@@ -27,16 +27,21 @@ pub at-any-place-alike : {M : Type 0} (f : List ℕ → List ℕ) (p : Found) (g
 at-any-place-alike f Outside g g′ each = refl
 at-any-place-alike f (At at) g g′ each = each at refl
 
+-- what is shown behind an address, said by what was shown there before
+pub shown-so : (head : ℕ) (field before after : List ℕ) (over : List ℕ → List ℕ) → head ≤ length field → after ≡ over before
+    → take head field ++ after ≡ take head (take head field ++ before) ++ over (drop head (take head field ++ before))
+shown-so head field before after over whole e =
+    let size = length-take-le head field whole in
+    ap (λ l. take head field ++ l) e
+    ∙ ap₂ (λ h l. h ++ over l) (sym (take-at (take head field) before head size)) (sym (drop-at (take head field) before head size))
+
 -- an address, and what stands at its place, in a memory that was stored in
 pub shown-after-a-store : (head : ℕ) (field held : List ℕ) (at : ℕ) (bytes : List ℕ) (from count : ℕ) → head ≤ length field
     → at + length bytes ≤ length held → from + count ≤ length held
     → take head field ++ stretch from count (stored held at bytes) ≡ shownAfter head at bytes from (take head field ++ stretch from count held)
 shown-after-a-store head field held at bytes from count whole fits inside =
-    let size = length-take-le head field whole in
-    ap (λ l. take head field ++ l) (what-is-read-after-a-store held at bytes fits count from inside)
-    ∙ ap₂ (λ h l. h ++ overlaid at bytes from l)
-    (sym (take-at (take head field) (stretch from count held) head size))
-    (sym (drop-at (take head field) (stretch from count held) head size))
+    shown-so head field (stretch from count held) (stretch from count (stored held at bytes)) (overlaid at bytes from) whole
+    (what-is-read-after-a-store held at bytes fits count from inside)
 
 -- and of a range that the store does not meet
 pub shown-elsewhere : (head at : ℕ) (bytes : List ℕ) (from : ℕ) (reply : List ℕ) → (from + (length reply - head) ≤ at) ⊎ (at + length bytes ≤ from)

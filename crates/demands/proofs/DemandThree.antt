@@ -61,12 +61,12 @@ abbrev Good : ℕ → Kept → Type 0
 Good size memory = Right memory × (length (memory .fram) ≡ size)
 
 -- a command that is done keeps what its memory has
-abbrev Keeps : {M : Type 0} → (M → Type 0) → Ending M → Type 0
+abbrev pub Keeps : {M : Type 0} → (M → Type 0) → Ending M → Type 0
 Keeps P (done reply after) = P after
 Keeps P refused = 0 ≤ 0
 Keeps P unfitted = 0 ≤ 0
 
-keeps-inside : {M N : Type 0} (P : M → Type 0) (Q : N → Type 0) (f : M → N) → ((m : M) → P m → Q (f m)) → (o : Ending M) → Keeps P o → Keeps Q (inside f o)
+pub keeps-inside : {M N : Type 0} (P : M → Type 0) (Q : N → Type 0) (f : M → N) → ((m : M) → P m → Q (f m)) → (o : Ending M) → Keeps P o → Keeps Q (inside f o)
 keeps-inside P Q f g (done reply after) k = g after k
 keeps-inside P Q f g refused k = k
 keeps-inside P Q f g unfitted k = k

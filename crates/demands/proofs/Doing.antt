@@ -1,5 +1,6 @@
--- Demand 2, on what is done: a POKE inside FRAM and a WRITE EDAC inside EDAC memory, sent to a unit, are done, and store where their
--- address says. (A unit that refused them all would meet what is said of those that are done.) Assumes nothing.
+-- Demand 2, on what is done: a POKE inside FRAM, a WRITE EDAC inside EDAC memory and a WRITE FILE of a whole list, sent to a unit, are done,
+-- and the first two store where their address says. (A unit that refused them all would meet what is said of those that are done.)
+-- Assumes nothing.
 use mathlib.Core.Path.{_≡_, refl, sym, ap, ap₂, _∙_, subst}
 use mathlib.Core.List.{List, _++_}
 use Prim.Native.Nat.{ℕ, _+_, _-_, _≤_, _<_}
@@ -12,6 +13,9 @@ use Rattle.field.specs.Fields.{word16At, word32At, bytes16, bytes32}
 use Rattle.field.proofs.Words.{two-bytes, four-bytes}
 use Rattle.memory.specs.Edac.{edacSize, insideEdac}
 use Rattle.memory.specs.Bytes.{stored}
+use Rattle.read_only.specs.ReadOnly.{written, Writes}
+use Rattle.read_only.proofs.Keeping.{a-write-address-by-address}
+use Rattle.field.specs.Reading.{isWhole}
 use Rattle.blocks.specs.Fram.{kept, placeOf, storeOf}
 use Rattle.blocks.specs.declared.Found.the-variants.{At}
 use Rattle.carrying.specs.declared.Mode.the-variants.{Application}
@@ -20,6 +24,8 @@ use Rattle.carrying.specs.Held.{Held, held, onEdac, onFram}
 use Rattle.carrying.proofs.Room.{either-way}
 use Rattle.fram_commands.specs.Poke.{pokeOf}
 use Rattle.fram_commands.proofs.Ways.{poke-inside}
+use Rattle.file_commands.specs.WriteFile.{listed, writeFileOf}
+use Rattle.file_commands.proofs.Storing.{a-whole-list-is-written}
 use Rattle.edac_commands.specs.WriteEdac.{writeEdacOf}
 use Rattle.edac_commands.proofs.Ways.{edac-write-inside}
 use Rattle.command.proofs.Codes.{in-either-mode, in-application}
@@ -31,7 +37,7 @@ use Rattle.unit.specs.World.{World, Outcome, heldOf}
 use Rattle.unit.specs.Steps.{firstOfFram, answered}
 use Rattle.demands.specs.Calls.{Call, Fed}
 use Rattle.demands.specs.Orders.{Sends, withItsMessage, leftBy, cameTo}
-use Rattle.demands.proofs.Orders.{a-sent-command-is-carried-out}
+use Rattle.demands.proofs.Orders.{a-sent-command-is-carried-out, edac-is-whole}
 
 module _ (u : Unit) (message : List ℕ) (source control : ℕ) (field : List ℕ) (calls : List Call) (c : Call) (sends : Sends u message source control field calls c) where
   abbrev laid : World
@@ -71,20 +77,32 @@ a-POKE-inside-FRAM-is-done u message source control address bytes calls c sends 
     ∙ ap (onFram (heldOf u (c .lent))) (poke-inside longestData firstOfFram memory field (omega arith) (sends .short) (address - firstOfFram) found)) in
     (so .0, so .2)
 
--- A WRITE EDAC of one byte or more, in application mode, of a range that ends at or below 1,536, is done, and EDAC memory then has them
--- where its address says, and all else as it was.
+-- A WRITE EDAC of one byte or more, in application mode, of a range that ends at or below 1,536, is done, whether it meets read-only bytes or
+-- not. EDAC memory then has its writable bytes where its address says, and all else as it was.
 pub a-WRITE-EDAC-inside-EDAC-memory-is-done : (u : Unit) (message : List ℕ) (source control address : ℕ) (bytes : List ℕ) (calls : List Call) (c : Call)
     → Sends u message source control (bytes16 address ++ bytes) calls c → codeOf control ≡ 0x0A → u .mode ≡ Application → 1 ≤ length bytes
     → address + length bytes ≤ edacSize
-    → (numberOf (leftBy u message calls c .answer) ≤ 2) × (leftBy u message calls c .world .edac ≡ stored (c .lent .edac) address bytes)
+    → (numberOf (leftBy u message calls c .answer) ≤ 2) × Writes (c .lent .edac) address bytes (leftBy u message calls c .world .edac)
 a-WRITE-EDAC-inside-EDAC-memory-is-done u message source control address bytes calls c sends code mode some ends =
     let field = bytes16 address ++ bytes in
     let size : length field - 2 ≡ length bytes = omega arith in
+    let whole = edac-is-whole u message source control field calls c sends in
     let there : address ≡ word16At field 0 = sym (two-bytes address (omega arith)) in
     let inside : insideEdac address (length field - 2) ≡ true = ap (insideEdac address) size ∙ le-leb (address + length bytes) edacSize ends in
-    let so = a-command-that-is-done-answers-so u message source control field calls c sends field
-    (held (u .mode) (stored (c .lent .edac) address bytes) (kept (c .lent .fram) (c .lent .sums)))
+    let so = a-command-that-is-done-answers-so u message source control field calls c sends _ (held (u .mode) (written (c .lent .edac) address bytes) (kept (c .lent .fram) (c .lent .sums)))
     (in-application longestData firstOfFram (codeOf control) (c .lent .diagnostics) (heldOf u (c .lent)) field 0x0A
     (onEdac (heldOf u (c .lent)) (writeEdacOf longestData (c .lent .edac) field)) code mode refl
     ∙ ap (onEdac (heldOf u (c .lent))) (edac-write-inside longestData (c .lent .edac) field (omega arith) (sends .short) address there inside)) in
-    (so .0, so .1)
+    (so .0, subst (Writes (c .lent .edac) address bytes) (sym (so .1)) (a-write-address-by-address (c .lent .edac) address bytes (omega arith)))
+
+-- A WRITE FILE of one structure or more, in application mode, whose list ends between two structures, is done, whatever files it names. (What
+-- its files then show, a READ FILE says: `a-READ-FILE-after-a-WRITE-FILE`.)
+pub a-WRITE-FILE-of-a-whole-list-is-done : (u : Unit) (message : List ℕ) (source control : ℕ) (list : List ℕ) (calls : List Call) (c : Call)
+    → Sends u message source control list calls c → codeOf control ≡ 0x08 → u .mode ≡ Application → 0 < length list → isWhole (listed list) ≡ true
+    → numberOf (leftBy u message calls c .answer) ≤ 2
+a-WRITE-FILE-of-a-whole-list-is-done u message source control list calls c sends code mode some whole =
+    a-command-that-is-done-answers-so u message source control list calls c sends _ _
+    (in-application longestData firstOfFram (codeOf control) (c .lent .diagnostics) (heldOf u (c .lent)) list 0x08
+    (onEdac (heldOf u (c .lent)) (writeFileOf longestData (c .lent .edac) list)) code mode refl
+    ∙ ap (onEdac (heldOf u (c .lent))) (a-whole-list-is-written longestData (c .lent .edac) list some (sends .short) whole))
+    .0

@@ -1,15 +1,17 @@
 -- Demand 2, on what is stored: a command that reads, sent after one that stored and was done, shows what was stored; and elsewhere what
 -- stood there. Between the two, and by them, anything may be lent but the memory that was stored in. Assumes nothing.
 use mathlib.Core.Path.{_≡_, refl, sym, ap, _∙_}
-use mathlib.Core.Bool.{true}
+use mathlib.Core.Bool.{true, false}
 use mathlib.Core.List.{List, _++_}
 use mathlib.Core.Logic.{_⊎_}
 use Prim.Native.Nat.{ℕ, _+_, _-_, _≤_, _<_}
 use native.Mathlib.Omega.{arith}
-use lib.ListN.{length}
+use lib.ListN.{length, drop}
 use Rattle.line.specs.Packing.{packedOf}
 use Rattle.field.specs.Fields.{word16At, word32At, bytes16, bytes32}
 use Rattle.field.proofs.Words.{two-bytes, four-bytes}
+use Rattle.memory.specs.Bytes.{stretch}
+use Rattle.read_only.specs.ReadOnly.{readOnly, keeping}
 use Rattle.memory.specs.Edac.{edacSize}
 use Rattle.blocks.specs.Fram.{kept}
 use Rattle.carrying.specs.declared.Mode.{Mode}
@@ -28,7 +30,7 @@ use Rattle.file_commands.proofs.Storing as files
 use Rattle.edac_commands.specs.ReadEdac.{readEdacOf}
 use Rattle.edac_commands.specs.WriteEdac.{writeEdacOf}
 use Rattle.edac_commands.specs.Gather.{ranges, gatherOf}
-use Rattle.edac_commands.specs.Storing.{rangesAfter}
+use Rattle.edac_commands.specs.Storing.{edacAfter, rangesAfter}
 use Rattle.edac_commands.proofs.Storing as edac
 use Rattle.command.specs.Command.{commandOf}
 use Rattle.command.proofs.Codes.{in-either-mode, in-application, not-in-bootloader}
@@ -194,18 +196,18 @@ module _ (u : Unit) (message : List ℕ) (source control address : ℕ) (bytes :
       in-application longestData firstOfFram (codeOf control′) (e .lent .diagnostics) (heldOf v (e .lent)) asked 0x0B
       (reading (heldOf v (e .lent)) (gatherOf longestData (e .lent .edac) asked)) is mode refl
 
-  -- Any READ EDAC comes to what it came to before the WRITE EDAC, with the bytes written where its range meets theirs.
+  -- Any READ EDAC comes to what it came to before the WRITE EDAC, with the writable bytes that were written where its range meets theirs.
   pub a-READ-EDAC-after-a-WRITE-EDAC : address < 65536 → (control′ : ℕ) → codeOf control′ ≡ 0x09 → (asked : List ℕ)
       → cameTo v d control′ asked
-      ≡ showing (heldOf v (d .lent)) (shownAfter 2 address bytes (word16At asked 0)) (cameTo v (withEdac d (c .lent .edac)) control′ asked)
+      ≡ showing (heldOf v (d .lent)) (edacAfter address bytes (word16At asked 0)) (cameTo v (withEdac d (c .lent .edac)) control′ asked)
   a-READ-EDAC-after-a-WRITE-EDAC small control′ is asked =
       reads control′ is d asked
       ∙ ap (λ l. reading (heldOf v (d .lent)) (readEdacOf longestData l asked)) its-edac
       ∙ ap (reading (heldOf v (d .lent)))
       (edac.a-READ-EDAC-after-a-WRITE-EDAC longestData (c .lent .edac) field (wrote .reply) left whole (wrote .is) longestData asked
-      ∙ ap (λ (a : ℕ). withData (shownAfter 2 a bytes (word16At asked 0)) (readEdacOf longestData (c .lent .edac) asked)) (two-bytes address small))
-      ∙ read-so (heldOf v (d .lent)) (heldOf v (withEdac d (c .lent .edac) .lent)) (shownAfter 2 address bytes (word16At asked 0)) (readEdacOf longestData (c .lent .edac) asked)
-      ∙ ap (showing (heldOf v (d .lent)) (shownAfter 2 address bytes (word16At asked 0))) (sym (reads control′ is (withEdac d (c .lent .edac)) asked))
+      ∙ ap (λ (a : ℕ). withData (edacAfter a bytes (word16At asked 0)) (readEdacOf longestData (c .lent .edac) asked)) (two-bytes address small))
+      ∙ read-so (heldOf v (d .lent)) (heldOf v (withEdac d (c .lent .edac) .lent)) (edacAfter address bytes (word16At asked 0)) (readEdacOf longestData (c .lent .edac) asked)
+      ∙ ap (showing (heldOf v (d .lent)) (edacAfter address bytes (word16At asked 0))) (sym (reads control′ is (withEdac d (c .lent .edac)) asked))
 
   -- A READ EDAC whose range does not meet theirs shows what stood there.
   pub a-READ-EDAC-of-another-range : address < 65536 → (control′ : ℕ) → codeOf control′ ≡ 0x09 → (asked reply : List ℕ) (now : Held)
@@ -213,10 +215,10 @@ module _ (u : Unit) (message : List ℕ) (source control address : ℕ) (bytes :
       → cameTo v (withEdac d (c .lent .edac)) control′ asked ≡ done reply now → cameTo v d control′ asked ≡ done reply (heldOf v (d .lent))
   a-READ-EDAC-of-another-range small control′ is asked reply now apart before =
       a-READ-EDAC-after-a-WRITE-EDAC small control′ is asked
-      ∙ ap (showing (heldOf v (d .lent)) (shownAfter 2 address bytes (word16At asked 0))) before
-      ∙ ap (λ l. done l (heldOf v (d .lent))) (shown-elsewhere 2 address bytes (word16At asked 0) reply apart)
+      ∙ ap (showing (heldOf v (d .lent)) (edacAfter address bytes (word16At asked 0))) before
+      ∙ ap (λ l. done l (heldOf v (d .lent))) (edac.edac-shown-elsewhere address bytes (word16At asked 0) reply apart)
 
-  -- Any GATHER comes to what it came to before, with the bytes written where one of its ranges meets theirs.
+  -- Any GATHER comes to what it came to before, with the writable bytes that were written where one of its ranges meets theirs.
   pub a-GATHER-after-a-WRITE-EDAC : address < 65536 → (control′ : ℕ) → codeOf control′ ≡ 0x0B → (asked : List ℕ)
       → cameTo v d control′ asked
       ≡ showing (heldOf v (d .lent)) (λ _. rangesAfter address bytes (c .lent .edac) (ranges asked)) (cameTo v (withEdac d (c .lent .edac)) control′ asked)
@@ -229,28 +231,56 @@ module _ (u : Unit) (message : List ℕ) (source control address : ℕ) (bytes :
       ∙ read-so (heldOf v (d .lent)) (heldOf v (withEdac d (c .lent .edac) .lent)) (λ _. rangesAfter address bytes (c .lent .edac) (ranges asked)) (gatherOf longestData (c .lent .edac) asked)
       ∙ ap (showing (heldOf v (d .lent)) (λ _. rangesAfter address bytes (c .lent .edac) (ranges asked))) (sym (gathers control′ is (withEdac d (c .lent .edac)) asked))
 
-  -- A READ EDAC of the same range is done, and shows the bytes written; a GATHER of it too, of up to 1,024 bytes.
-  pub what-was-written-is-read : (control′ : ℕ) → codeOf control′ ≡ 0x09
-      → cameTo v d control′ (bytes16 address ++ bytes16 (length bytes)) ≡ done (bytes16 address ++ bytes) (heldOf v (d .lent))
-  what-was-written-is-read control′ is =
+  -- What then stands there: byte for byte what stood there, where it is read-only, and elsewhere what was written.
+  abbrev now-there : List ℕ
+  now-there = keeping address (stretch address (length bytes) (c .lent .edac)) bytes
+
+  answered-with : address < 65536 → wrote .reply ≡ bytes16 address ++ now-there
+  answered-with small =
+      edac.what-a-WRITE-EDAC-answers longestData (c .lent .edac) address bytes (wrote .reply) left whole (wrote .is)
+      ∙ ap (λ l. bytes16 address ++ l) (edac.what-memory-then-holds longestData (c .lent .edac) address bytes (wrote .reply) left whole (wrote .is))
+      ∙ ap (λ (a : ℕ). bytes16 address ++ keeping a (stretch a (length bytes) (c .lent .edac)) bytes) (two-bytes address small)
+
+  -- The WRITE EDAC itself answers so.
+  pub a-WRITE-EDAC-answers-what-memory-holds : address < 65536 → (reply : List ℕ) (after : Held) → cameTo u c control field ≡ done reply after
+      → reply ≡ bytes16 address ++ now-there
+  unfolding wrote-so
+  a-WRITE-EDAC-answers-what-memory-holds small reply after came =
+      let known = a-command-answered-so-was-done u message source control field calls c sends was-done in
+      replies-alike (sym came ∙ known .is) ∙ answered-with small
+
+  -- A READ EDAC of the same range is done, and shows it; a GATHER of it too, of up to 1,024 bytes.
+  pub what-was-written-is-read : address < 65536 → (control′ : ℕ) → codeOf control′ ≡ 0x09
+      → cameTo v d control′ (bytes16 address ++ bytes16 (length bytes)) ≡ done (bytes16 address ++ now-there) (heldOf v (d .lent))
+  what-was-written-is-read small control′ is =
       reads control′ is d (bytes16 address ++ bytes16 (length bytes))
       ∙ ap (λ l. reading (heldOf v (d .lent)) (readEdacOf longestData l (bytes16 address ++ bytes16 (length bytes)))) its-edac
       ∙ ap (reading (heldOf v (d .lent))) (edac.what-was-written-is-read longestData (c .lent .edac) address bytes (wrote .reply) left whole (wrote .is))
+      ∙ ap (λ l. done l (heldOf v (d .lent))) (answered-with small)
 
-  pub what-was-written-is-gathered : length bytes ≤ 1024 → (control′ : ℕ) → codeOf control′ ≡ 0x0B
-      → cameTo v d control′ (bytes16 address ++ bytes16 (length bytes)) ≡ done ((bytes16 address ++ bytes16 (length bytes)) ++ bytes) (heldOf v (d .lent))
-  what-was-written-is-gathered roomy control′ is =
+  pub what-was-written-is-gathered : address < 65536 → length bytes ≤ 1024 → (control′ : ℕ) → codeOf control′ ≡ 0x0B
+      → cameTo v d control′ (bytes16 address ++ bytes16 (length bytes)) ≡ done ((bytes16 address ++ bytes16 (length bytes)) ++ now-there) (heldOf v (d .lent))
+  what-was-written-is-gathered small roomy control′ is =
       gathers control′ is d (bytes16 address ++ bytes16 (length bytes))
       ∙ ap (λ l. reading (heldOf v (d .lent)) (gatherOf longestData l (bytes16 address ++ bytes16 (length bytes)))) its-edac
       ∙ ap (reading (heldOf v (d .lent))) (edac.what-was-written-is-gathered longestData (c .lent .edac) address bytes (wrote .reply) left whole (wrote .is) (omega arith))
+      ∙ ap (λ l. done ((bytes16 address ++ bytes16 (length bytes)) ++ drop 2 l) (heldOf v (d .lent))) (answered-with small)
+
+  -- Where all of it is writable, that is what was written.
+  pub what-is-writable-is-read-as-it-was-written : address < 65536 → ((n : ℕ) → address ≤ n → n < address + length bytes → readOnly n ≡ false) → now-there ≡ bytes
+  what-is-writable-is-read-as-it-was-written small free =
+      let there = two-bytes address small in
+      ap (drop 2)
+      (sym (answered-with small)
+      ∙ edac.writable-bytes-are-echoed longestData (c .lent .edac) address bytes (wrote .reply) left whole (wrote .is) (λ n low high. free n (omega arith) (omega arith)))
 
   -- From bytes on the line to bytes on the line.
-  pub what-was-written-is-sent : (message′ : List ℕ) (source′ control′ : ℕ) (calls′ : List Call)
+  pub what-was-written-is-sent : address < 65536 → (message′ : List ℕ) (source′ control′ : ℕ) (calls′ : List Call)
       → Sends v message′ source′ control′ (bytes16 address ++ bytes16 (length bytes)) calls′ d → codeOf control′ ≡ 0x09 → polls control′ ≡ true
-      → sentBy (leftBy v message′ calls′ d) ≡ packedOf (replyMessage 1 (v .address) source′ control′ (bytes16 address ++ bytes))
-  what-was-written-is-sent message′ source′ control′ calls′ asks is polled =
-      a-command-that-is-done-sends-its-data v message′ source′ control′ (bytes16 address ++ bytes16 (length bytes)) calls′ d asks polled (bytes16 address ++ bytes) (heldOf v (d .lent))
-      (what-was-written-is-read control′ is)
+      → sentBy (leftBy v message′ calls′ d) ≡ packedOf (replyMessage 1 (v .address) source′ control′ (bytes16 address ++ now-there))
+  what-was-written-is-sent small message′ source′ control′ calls′ asks is polled =
+      a-command-that-is-done-sends-its-data v message′ source′ control′ (bytes16 address ++ bytes16 (length bytes)) calls′ d asks polled (bytes16 address ++ now-there) (heldOf v (d .lent))
+      (what-was-written-is-read small control′ is)
 
 -- ---- WRITE FILE and READ FILE
 
@@ -271,7 +301,7 @@ module _ (u : Unit) (message : List ℕ) (source control : ℕ) (list : List ℕ
       in-application longestData firstOfFram (codeOf control′) (e .lent .diagnostics) (heldOf v (e .lent)) asked 0x07
       (reading (heldOf v (e .lent)) (readFileOf longestData (e .lent .edac) asked)) is mode refl
 
-  -- Any READ FILE comes to what it came to before the WRITE FILE, with the body that was written last for each file that was written.
+  -- Any READ FILE comes to what it came to before the WRITE FILE, with the body that was written last for each writable file that was written.
   pub a-READ-FILE-after-a-WRITE-FILE : (control′ : ℕ) → codeOf control′ ≡ 0x07 → (asked : List ℕ) → Bytes asked
       → cameTo v d control′ asked
       ≡ showing (heldOf v (d .lent)) (λ _. filesAfter (listed list) (c .lent .edac) asked) (cameTo v (withEdac d (c .lent .edac)) control′ asked)

@@ -1,4 +1,5 @@
 pub mod Leaving
 pub mod Calls
 pub mod Orders
+pub mod Keeping
 pub mod Worked

@@ -1,4 +1,5 @@
--- 01, "Small examples": P1 to P12, under one statement. Those that a unit can show are run on one, byte by byte. Assumes nothing.
+-- 01, "Small examples": P1 to P12, and one for 02, T-02, under one statement. Those that a unit can show are run on one, byte by byte.
+-- Assumes nothing.
 use mathlib.Core.Path.{_≡_}
 use mathlib.Core.Bool.{true, false}
 use mathlib.Core.List.{List, [], _∷_, _++_}
@@ -110,4 +111,10 @@ pub record WorkedExamples : Type 0 where
       (init ++ (0xC0 ∷ 0x41 ∷ 0x11 ∷ 0x88 ∷ 0x28 ∷ 0x01 ∷ 0x02 ∷ 0x03 ∷ 0x04 ∷ 0x29 ∷ 0x05 ∷ 0x0A ∷ 0xFF ∷ 0xC0 ∷ []))
       (initAnswers ++ replicate 13 0 ++ (3 ∷ []))
       (initReply ++ (0xC0 ∷ 0x11 ∷ 0x41 ∷ 0x88 ∷ 0x28 ∷ 0x01 ∷ 0x02 ∷ 0x03 ∷ 0x04 ∷ 0x29 ∷ 0x05 ∷ 0xD4 ∷ 0x65 ∷ 0xC0 ∷ []))
+      noCounts zeros
+  -- 02, T-02: SPEED, file 0x15, is written 01 02 03 04. Answer 1, the reply shows the 00 00 00 00 that it holds, and nothing is stored.
+  pub T02 : Shows zeros
+      (init ++ (0xC0 ∷ 0x41 ∷ 0x11 ∷ 0x88 ∷ 0x15 ∷ 0x01 ∷ 0x02 ∷ 0x03 ∷ 0x04 ∷ 0x7F ∷ 0xC1 ∷ 0xC0 ∷ []))
+      (initAnswers ++ replicate 11 0 ++ (1 ∷ []))
+      (initReply ++ (0xC0 ∷ 0x11 ∷ 0x41 ∷ 0xA8 ∷ 0x15 ∷ 0x00 ∷ 0x00 ∷ 0x00 ∷ 0x00 ∷ 0x16 ∷ 0xCD ∷ 0xC0 ∷ []))
       noCounts zeros

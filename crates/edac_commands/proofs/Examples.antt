@@ -1,13 +1,16 @@
--- Both sides of each edge of READ EDAC and GATHER, by computation. Assumes nothing.
+-- Both sides of each edge of READ EDAC and GATHER, and a write over a read-only byte, by computation. Assumes nothing.
 use mathlib.Core.Path.{_≡_, refl}
 use mathlib.Core.List.{List, [], _∷_}
 use mathlib.Core.Bool.{true}
 use Prim.Native.Nat.{ℕ}
 use lib.ListN.{replicate}
+use Rattle.memory.specs.Bytes.{stored}
+use Rattle.read_only.specs.ReadOnly.{readOnly, keeping, written}
 use Rattle.field.specs.Reading.{listedFrom}
 use Rattle.carrying.specs.Ending.{longestData, done, refused}
 use Rattle.carrying.proofs.Asking.{isDone, isRefused}
 use Rattle.edac_commands.specs.ReadEdac.{readEdacOf, readEdacRangeOf}
+use Rattle.edac_commands.specs.WriteEdac.{writeEdacOf}
 use Rattle.edac_commands.specs.Gather.{gatherOf}
 
 abbrev pub edac : List ℕ
@@ -34,3 +37,8 @@ gather-two = (refl, refl)
 pub gather-edges : (isDone (gatherOf longestData edac (0xFF ∷ 0x05 ∷ 0x01 ∷ 0x00 ∷ [])) ≡ true) × (isRefused (gatherOf longestData edac (0x00 ∷ 0x06 ∷ 0x01 ∷ 0x00 ∷ [])) ≡ true) × (isRefused (gatherOf longestData edac (0x00 ∷ 0x00 ∷ 0x00 ∷ 0x00 ∷ [])) ≡ true) × (isRefused (gatherOf longestData edac []) ≡ true)
 unfolding gatherOf listedFrom
 gather-edges = (refl, refl, refl, refl)
+
+-- 02, T-02: three bytes from 0x5D6 on, of which FLAGS_ACTIVE, 0x5D7, keeps its 00; the reply shows it so
+pub T02 : writeEdacOf longestData edac (0xD6 ∷ 0x05 ∷ 0x01 ∷ 0x02 ∷ 0x03 ∷ []) ≡ done (0xD6 ∷ 0x05 ∷ 0x01 ∷ 0x00 ∷ 0x03 ∷ []) (stored edac 0x5D6 (0x01 ∷ 0x00 ∷ 0x03 ∷ []))
+unfolding writeEdacOf written keeping readOnly stored
+T02 = refl

@@ -7,14 +7,15 @@ use native.Mathlib.Omega.{arith}
 use borrow.Author.Tests.{ltb-false}
 use lib.Dec.{eqb, ltb}
 use lib.ListN.{length, take, drop, getD, length-append}
-use Rattle.memory.specs.Bytes.{stretch, stored}
+use Rattle.memory.specs.Bytes.{stretch}
+use Rattle.read_only.specs.ReadOnly.{written}
 use Rattle.memory.specs.Edac.{insideEdac}
 use Rattle.field.specs.Fields.{word16At, shortCount}
 use Rattle.field.proofs.Lists.{by-structures, list-ends}
 use Rattle.carrying.specs.Ending.{done, refused}
 use Rattle.carrying.proofs.Room.{either-way, Roomy, part}
 use Rattle.edac_commands.specs.ReadEdac.{readEdacRangeOf, readEdacOf}
-use Rattle.edac_commands.specs.WriteEdac.{writeEdacOf}
+use Rattle.edac_commands.specs.WriteEdac.{writtenEdac, writeEdacOf}
 use Rattle.edac_commands.specs.Gather.{ranges, rangesHold, rangesWidth, rangesShown, gatherOf}
 use Rattle.edac_commands.proofs.Lists.{at-least-one, holding-is-whole, ranges-width-turn, ranges-shown-turn}
 
@@ -63,9 +64,13 @@ module _ (room : ℕ) (edac field : List ℕ) where
   unfolding writeEdacOf
   write-edac-fits =
       either-way (Roomy room) (ltb (length field) 3) refused _ (λ _. omega arith)
-      (λ _. either-way (Roomy room) (ltb room (length field)) refused _ (λ _. omega arith)
-      (λ e. either-way (Roomy room) (insideEdac (word16At field 0) (length field - 2)) (done field (stored edac (word16At field 0) (drop 2 field))) refused
-      (λ _. ltb-false room (length field) e) (λ _. omega arith)))
+      (λ short. either-way (Roomy room) (ltb room (length field)) refused _ (λ _. omega arith)
+      (λ e. either-way (Roomy room) (insideEdac (word16At field 0) (length field - 2)) (writtenEdac edac field) refused
+      (λ _. shown (ltb-false (length field) 3 short) (ltb-false room (length field) e)) (λ _. omega arith)))
+    where
+      shown : 3 ≤ length field → length field ≤ room
+          → length (take 2 field ++ stretch (word16At field 0) (length field - 2) (written edac (word16At field 0) (drop 2 field))) ≤ room
+      shown some h = let e = head-then-bytes 2 (length field - 2) field (drop (word16At field 0) (written edac (word16At field 0) (drop 2 field))) in omega arith
 
   pub gather-fits : Roomy room (gatherOf room edac field)
   unfolding gatherOf

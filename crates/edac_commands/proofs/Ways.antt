@@ -1,5 +1,5 @@
 -- One law for each way through a command's function. Assumes nothing.
-use mathlib.Core.Path.{_≡_, refl, sym, _∙_}
+use mathlib.Core.Path.{_≡_, refl, sym, ap, _∙_}
 use mathlib.Core.Bool.{Bool, true, false, cond, _&&_, false≢true}
 use mathlib.Core.List.{List, _++_}
 use Prim.Native.Nat.{ℕ, _+_, _-_, _≤_, _<_}
@@ -8,10 +8,12 @@ use borrow.Author.Tests.{lt-ltb, le-ltb, eq-eqb, ne-eqb, leb-true, leb-false}
 use lib.Dec.{leb, ltb}
 use lib.ListN.{length, take, drop, getD, length-drop}
 use Rattle.memory.specs.Bytes.{stretch, stored, begun}
+use Rattle.read_only.specs.ReadOnly.{written}
+use Rattle.read_only.proofs.Keeping.{a-write-keeps-read-only-bytes}
 use Rattle.memory.specs.Edac.{edacSize, insideEdac}
 use Rattle.carrying.specs.declared.Ended.the-variants.{Done, Refused}
 use Rattle.carrying.specs.Ending.{done, refused, left, leaves}
-use Rattle.carrying.proofs.Writing.{is-done, is-refused}
+use Rattle.carrying.proofs.Writing.{is-done, is-done-storing, is-refused, the-rest, address-then-bytes, length-of-address-then-bytes}
 use Rattle.field.specs.Fields.{word16At, shortCount}
 use Rattle.edac_commands.specs.ReadEdac.{readEdacRangeOf, readEdacOf}
 use Rattle.edac_commands.specs.WriteEdac.{writeEdacOf}
@@ -62,9 +64,26 @@ unfolding writeEdacOf
 edac-write-without-room room edac field some lacks = simp (le-ltb (length field) 3 some, lt-ltb room (length field) lacks)
 
 module _ (room : ℕ) (edac field : List ℕ) (some : 3 ≤ length field) (fits : length field ≤ room) (at : ℕ) (e : at ≡ word16At field 0) where
-  pub edac-write-inside : insideEdac at (length field - 2) ≡ true → writeEdacOf room edac field ≡ done field (stored edac at (drop 2 field))
+  pub edac-write-inside : insideEdac at (length field - 2) ≡ true
+      → writeEdacOf room edac field ≡ done (take 2 field ++ stretch at (length field - 2) (written edac at (drop 2 field))) (written edac at (drop 2 field))
   unfolding writeEdacOf
   edac-write-inside inside = simp (le-ltb (length field) 3 some, le-ltb room (length field) fits, ← e, inside)
+
+  -- what is stored, and then the reply in two pieces
+  pub edac-is-written : (memory first second reply : List ℕ) → insideEdac at (length field - 2) ≡ true → length edac ≡ edacSize
+      → memory ≡ written edac at (take (length field - 2) (drop 2 field)) → first ≡ stored reply 0 (take 2 field)
+      → second ≡ stored first 2 (stretch at (at + (length field - 2) - at) memory)
+      → left (Done (length field)) second memory ≡ leaves (writeEdacOf room edac field) reply edac
+  edac-is-written memory first second reply inside whole e e1 e2 =
+      let after = written edac at (drop 2 field) in
+      let stores : memory ≡ after = e ∙ ap (written edac at) (the-rest 2 field) in
+      let ends = leb-true (at + (length field - 2)) edacSize inside in
+      let long = a-write-keeps-read-only-bytes edac at (drop 2 field) .same-length in
+      is-done-storing (writeEdacOf room edac field) (take 2 field ++ stretch at (length field - 2) after) second reply (length field) memory after edac
+      (edac-write-inside inside) stores
+      (length-of-address-then-bytes 2 field after at (length field - 2) (omega arith) (omega arith) ∙ omega arith)
+      (address-then-bytes 2 field memory reply first second at (length field - 2) (omega arith) e1 e2
+      ∙ ap (λ m. begun reply (take 2 field ++ stretch at (length field - 2) m)) stores)
 
   pub edac-write-outside : insideEdac at (length field - 2) ≡ false → writeEdacOf room edac field ≡ refused
   unfolding writeEdacOf

@@ -3,12 +3,13 @@ use carrying::Ended;
 use field::fields::word16;
 use field::reader::new;
 use field::reader::past;
+use memory::bytes::lesser;
 use memory::bytes::put;
 use memory::edac::EdacAddress;
 ghost use mathlib.Core.Path.{_≡_};
 ghost use mathlib.Core.Bool.{_&&_};
 ghost use mathlib.Core.List.{_++_};
-ghost use Prim.Native.Nat.{_+_, _≤_, min};
+ghost use Prim.Native.Nat.{_+_, _≤_};
 ghost use lib.Dec.{leb};
 ghost use lib.ListN.{length, drop};
 ghost use Rattle.memory.specs.Bytes.{stretch, stored, begun};
@@ -50,12 +51,6 @@ fn ranges_taken(room: usize, field: &[u8], start: usize) -> bool
         at = next;
     }
     true
-}
-
-fn lesser(a: usize, b: usize) -> usize
-    ensures { λ r. ⌜ r ≡ min a b ⌝ }
-{
-    if a < b { a } else { b }
 }
 
 // The bytes of a range, as far as they are there: so a list may be shown that nobody judged.

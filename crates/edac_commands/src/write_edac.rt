@@ -3,6 +3,7 @@ use carrying::Ended;
 use field::fields::word16;
 use memory::bytes::put;
 use memory::edac::EdacAddress;
+use read_only::store::store;
 ghost use mathlib.Core.Path.{_≡_};
 ghost use Prim.Native.Nat.{_≤_};
 ghost use lib.ListN.{length};
@@ -23,9 +24,14 @@ pub fn write_edac(room: usize, edac: &mut [u8], field: &[u8], reply: &mut [u8]) 
         return Ended::Refused;
     }
     let address = word16(field, 0);
-    if memory::edac::holds(EdacAddress(address), size - 2) {
-        put(&field[2..size], edac, address as usize);
-        put(field, reply, 0);
+    let count = size - 2;
+    if memory::edac::holds(EdacAddress(address), count) {
+        let at = address as usize;
+        let end = at + count;
+        store(&field[2..size], edac, at);
+        // The reply shows what memory now holds: not what was sent, where that met a read-only byte.
+        put(&field[0..2], reply, 0);
+        put(&edac[at..end], reply, 2);
         return Ended::Done(size);
     }
     Ended::Refused

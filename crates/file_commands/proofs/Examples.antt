@@ -5,7 +5,9 @@ use mathlib.Core.Bool.{true}
 use Prim.Native.Nat.{ℕ}
 use lib.ListN.{replicate, set, length}
 use Rattle.memory.specs.Bytes.{stored}
-use Rattle.memory.specs.Edac.{bodySize, fileShown, fileStored}
+use Rattle.read_only.specs.ReadOnly.{readOnly, keeping, written}
+use Rattle.memory.specs.Edac.{bodySize, fileShown}
+use Rattle.read_only.specs.Files.{fileStored}
 use Rattle.field.specs.Reading.{listedFrom}
 use Rattle.carrying.specs.Ending.{longestData, done, refused}
 use Rattle.carrying.proofs.Asking.{isDone, isRefused, replyOf}
@@ -26,8 +28,13 @@ abbrev pub twice : List ℕ
 twice = 0x28 ∷ 0x01 ∷ 0x02 ∷ 0x03 ∷ 0x04 ∷ 0x28 ∷ 0x05 ∷ 0x06 ∷ 0x07 ∷ 0x08 ∷ []
 
 pub P11 : writeFileOf longestData edac twice ≡ done (0x28 ∷ 0x05 ∷ 0x06 ∷ 0x07 ∷ 0x08 ∷ 0x28 ∷ 0x05 ∷ 0x06 ∷ 0x07 ∷ 0x08 ∷ []) (stored edac 0x0A0 (0x05 ∷ 0x06 ∷ 0x07 ∷ 0x08 ∷ []))
-unfolding writeFileOf listedFrom bodySize filesShown fileShown fileStored stored
+unfolding writeFileOf listedFrom bodySize filesShown fileShown fileStored written keeping readOnly stored
 P11 = refl
+
+-- 02, T-02: SPEED (file 0x15) and INERTIA (0x28) in one list, in a memory of zeros: both are shown, SPEED as it was
+pub T02 : writeFileOf longestData edac (0x15 ∷ 0x01 ∷ 0x02 ∷ 0x03 ∷ 0x04 ∷ 0x28 ∷ 0x05 ∷ 0x06 ∷ 0x07 ∷ 0x08 ∷ []) ≡ done (0x15 ∷ 0x00 ∷ 0x00 ∷ 0x00 ∷ 0x00 ∷ 0x28 ∷ 0x05 ∷ 0x06 ∷ 0x07 ∷ 0x08 ∷ []) (stored edac 0x0A0 (0x05 ∷ 0x06 ∷ 0x07 ∷ 0x08 ∷ []))
+unfolding writeFileOf listedFrom bodySize filesShown fileShown fileStored written keeping readOnly stored
+T02 = refl
 
 pub P12 : writeFileOf longestData edac (0x28 ∷ 0x01 ∷ 0x02 ∷ 0x03 ∷ 0x04 ∷ 0x29 ∷ 0x05 ∷ []) ≡ refused
 unfolding writeFileOf listedFrom bodySize

@@ -1,18 +1,22 @@
--- READ FILE after a WRITE FILE that was done: of each file the body that was written last, or what it showed before. Assumes nothing.
+-- READ FILE after a WRITE FILE that was done: of each writable file the body that was written last, or what it showed before; of a read-only
+-- file what it showed before. Assumes nothing.
 use mathlib.Core.Path.{_≡_, refl, sym, ap, ap₂, _∙_}
 use mathlib.Core.Bool.{Bool, true, false, cond}
 use mathlib.Core.List.{List, [], _∷_, _++_}
-use Prim.Native.Nat.{ℕ, zero, suc, _+_, _≤_, _<_}
+use Prim.Native.Nat.{ℕ, suc, _+_, _≤_, _<_}
 use native.Mathlib.Omega.{arith}
 use borrow.Author.Tests.{le-ltb, ltb-false, ne-eqb, eqb-false}
 use lib.Dec.{eqb, ltb}
 use lib.ListN.{length, drop, getD}
 use Rattle.memory.specs.Bytes.{stretch}
-use Rattle.memory.specs.Edac.{edacSize, bodySize, shownSize, fileShown, fileStored}
+use Rattle.read_only.specs.ReadOnly.{KeepsReadOnly}
+use Rattle.memory.specs.Edac.{edacSize, bodySize, shownSize, fileShown}
+use Rattle.read_only.specs.Files.{fileStored, fileReadOnly}
 use Rattle.memory.proofs.Stretches.{length-of-a-stretch}
 use Rattle.memory.proofs.Tests.{either-side}
-use Rattle.memory.proofs.Files.{a-stored-file-keeps-the-length, a-file-after-a-store}
-use Rattle.field.specs.Reading.{isWhole}
+use Rattle.read_only.proofs.Keeping.{kept-at-first, also-kept}
+use Rattle.read_only.proofs.Files.{a-stored-file-keeps-read-only-bytes, an-address-and-a-body, a-file-after-a-store}
+use Rattle.field.specs.Reading.{Listed, ends, cut, item, isWhole}
 use Rattle.field.proofs.Lists.{by-structures, list-ends}
 use Rattle.carrying.specs.Ending.{done, refused}
 use Rattle.carrying.specs.Storing.{withData}
@@ -22,6 +26,12 @@ use Rattle.file_commands.specs.WriteFile.{listed, filesOf, filesStored, 
 use Rattle.file_commands.specs.Storing.{lastBody, filesAfter}
 use Rattle.file_commands.proofs.Lists.{at-least-one, listed-turn}
 use Rattle.file_commands.proofs.Room.{listed-width}
+
+-- A list that is not empty, ends between two structures and whose reply has room is done, whatever files it names.
+pub a-whole-list-is-written : (room : ℕ) (edac field : List ℕ) → 0 < length field → length field ≤ room → isWhole (listed field) ≡ true
+    → writeFileOf room edac field ≡ done (filesShown (filesStored edac (listed field)) (filesOf (listed field))) (filesStored edac (listed field))
+unfolding writeFileOf
+a-whole-list-is-written room edac field some fits whole = simp (ne-eqb (length field) 0 (λ e. omega arith), le-ltb room (length field) fits, whole)
 
 -- what is known of a WRITE FILE that was done
 pub record FilesWritten (room : ℕ) (edac field reply after : List ℕ) : Type 0 where
@@ -52,35 +62,58 @@ a-WRITE-FILE-that-was-done room edac field reply after e =
       stores = cc;
     }
 
--- what a file shows is its address and a body
-an-address-and-a-body : (edac : List ℕ) (file : ℕ) → fileShown edac file ≡ file ∷ drop 1 (fileShown edac file)
-unfolding fileShown
-an-address-and-a-body edac zero = refl
-an-address-and-a-body edac (suc n) = refl
+-- ---- no list changes a read-only byte
+
+pub files-keep-read-only-bytes : (edac : List ℕ) (l : Listed) → KeepsReadOnly edac (filesStored edac l)
+files-keep-read-only-bytes edac ends = kept-at-first edac
+files-keep-read-only-bytes edac cut = kept-at-first edac
+files-keep-read-only-bytes edac (item file rest) =
+    also-kept (a-stored-file-keeps-read-only-bytes edac (getD file 0 0) (drop 1 file))
+    (files-keep-read-only-bytes (fileStored edac (getD file 0 0) (drop 1 file)) rest)
+
+-- ---- what files show afterwards
+
+same-either-way : (b : Bool) (l : List ℕ) → cond b l l ≡ l
+same-either-way true l = refl
+same-either-way false l = refl
+
+-- the body that a file is left with by one that is stored, and then by the rest
+and-then : (b : Bool) (had body : List ℕ) (rest : List ℕ → List ℕ) → cond b (cond b had body) (rest (cond b had body)) ≡ cond b had (rest body)
+and-then true had body rest = refl
+and-then false had body rest = refl
 
 -- a list of files, stored from a place on
 module _ (field : List ℕ) (bytes : (i : ℕ) → getD field i 0 < 256) where
+  abbrev left : List ℕ → ℕ → ℕ → List ℕ
+  left edac file at =
+      let had = drop 1 (fileShown edac file) in cond (fileReadOnly file) had (lastBody file (listed (drop at field)) had)
+
   abbrev Shows : ℕ → Type 0
-  Shows at = (edac : List ℕ) → length edac ≡ edacSize → (file : ℕ) → file < 256
-      → fileShown (filesStored edac (listed (drop at field))) file ≡ file ∷ lastBody file (listed (drop at field)) (drop 1 (fileShown edac file))
+  Shows at = (edac : List ℕ) → length edac ≡ edacSize → (file : ℕ) → file < 256 → fileShown (filesStored edac (listed (drop at field))) file ≡ file ∷ left edac file at
 
   shows-at-the-end : (at : ℕ) → length field ≤ at → Shows at
   shows-at-the-end at past edac size file small =
+      let had = drop 1 (fileShown edac file) in
       ap (λ l. fileShown (filesStored edac l) file) (list-ends shownSize field at past)
       ∙ an-address-and-a-body edac file
-      ∙ sym (ap (λ l. file ∷ lastBody file l (drop 1 (fileShown edac file))) (list-ends shownSize field at past))
+      ∙ sym
+      (ap (λ l. file ∷ cond (fileReadOnly file) had (lastBody file l had)) (list-ends shownSize field at past)
+      ∙ ap (λ l. file ∷ l) (same-either-way (fileReadOnly file) had))
 
   shows-one-more : (at : ℕ) → at < length field → at + shownSize (getD field at 0) ≤ length field → Shows (at + shownSize (getD field at 0)) → Shows at
   shows-one-more at inside fits others edac size file small =
       let named = getD field at 0 in
+      let next = at + shownSize named in
+      let had = drop 1 (fileShown edac file) in
       let body = stretch (at + 1) (bodySize named) field in
       let long : length body ≡ bodySize named = length-of-a-stretch field (at + 1) (bodySize named) (omega arith) in
       let turn = listed-turn field at inside fits in
       let first = a-file-after-a-store edac named body file size (bytes at) small long in
       ap (λ l. fileShown (filesStored edac l) file) turn
-      ∙ others (fileStored edac named body) (a-stored-file-keeps-the-length edac named body size (bytes at) long) file small
-      ∙ ap (λ shown. file ∷ lastBody file (listed (drop (at + shownSize named) field)) (drop 1 shown)) first
-      ∙ sym (ap (λ l. file ∷ lastBody file l (drop 1 (fileShown edac file))) turn)
+      ∙ others (fileStored edac named body) (a-stored-file-keeps-read-only-bytes edac named body .same-length ∙ size) file small
+      ∙ ap (λ shown. file ∷ cond (fileReadOnly file) (drop 1 shown) (lastBody file (listed (drop next field)) (drop 1 shown))) first
+      ∙ ap (λ l. file ∷ l) (and-then (fileReadOnly file) had (cond (eqb named file) body had) (lastBody file (listed (drop next field))))
+      ∙ sym (ap (λ l. file ∷ cond (fileReadOnly file) had (lastBody file l had)) turn)
 
   pub each-file-after : isWhole (listed field) ≡ true → Shows 0
   each-file-after whole = by-structures shownSize at-least-one field Shows shows-at-the-end shows-one-more 0 whole
@@ -98,7 +131,7 @@ module _ (room : ℕ) (edac field reply after : List ℕ) (size : length edac �
       (ap (λ l. fileShown l file) (sym (written .stores)) ∙ each-file-after field bytes (written .whole) edac size file (small 0))
       (files-alike files (λ i. small (suc i)))
 
-  -- Any READ FILE comes to what it came to before, with the body written last for each file that was written.
+  -- Any READ FILE comes to what it came to before, with the body written last for each writable file that was written.
   pub a-READ-FILE-after-a-WRITE-FILE : (asked : ℕ) (files : List ℕ) → ((i : ℕ) → getD files i 0 < 256)
       → readFileOf asked after files ≡ withData (λ _. filesAfter (listed field) edac files) (readFileOf asked edac files)
   unfolding readFileOf

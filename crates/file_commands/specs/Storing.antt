@@ -1,10 +1,12 @@
--- What READ FILE shows after files were stored in order (01, "Commands"; ICD 11.11 and 11.12). Assumes nothing.
+-- What READ FILE shows after files were stored in order (01, "Commands"; 02, T-02; ICD 11.11 and
+-- 11.12). Assumes nothing.
 use Prim.Native.Nat.{ℕ}
 use mathlib.Core.Bool.{cond}
 use mathlib.Core.List.{List, [], _∷_, _++_}
 use lib.Dec.{eqb}
 use lib.ListN.{getD, drop}
 use Rattle.memory.specs.Edac.{fileShown}
+use Rattle.read_only.specs.Files.{fileReadOnly}
 use Rattle.field.specs.Reading.{Listed, ends, cut, item}
 
 -- The body that a list names last for a file, or else the one that the file had.
@@ -13,8 +15,9 @@ lastBody file ends body = body
 lastBody file cut body = body
 lastBody file (item named rest) body = lastBody file rest (cond (eqb (getD named 0 0) file) (drop 1 named) body)
 
--- Each file's address and body.
+-- Each file's address and body: of a read-only file the body that it had.
 abbrev pub filesAfter : Listed → List ℕ → List ℕ → List ℕ
 filesAfter written edac [] = []
 filesAfter written edac (file ∷ files) =
-    (file ∷ lastBody file written (drop 1 (fileShown edac file))) ++ filesAfter written edac files
+    let had = drop 1 (fileShown edac file) in
+    (file ∷ cond (fileReadOnly file) had (lastBody file written had)) ++ filesAfter written edac files

@@ -1,10 +1,11 @@
--- WRITE FILE 0x08 (01, "Commands"; ICD 11.12). Assumes nothing.
+-- WRITE FILE 0x08 (01, "Commands"; 02, T-02; ICD 11.12). Assumes nothing.
 use Prim.Native.Nat.{ℕ}
 use mathlib.Core.Bool.{cond}
 use mathlib.Core.List.{List, [], _∷_}
 use lib.Dec.{eqb, ltb}
 use lib.ListN.{length, getD, drop}
-use Rattle.memory.specs.Edac.{shownSize, fileStored}
+use Rattle.memory.specs.Edac.{shownSize}
+use Rattle.read_only.specs.Files.{fileStored}
 use Rattle.field.specs.Reading.{Listed, ends, cut, item, isWhole, structures}
 use Rattle.carrying.specs.Ending.{Ending, done, refused}
 use Rattle.file_commands.specs.ReadFile.{filesShown}

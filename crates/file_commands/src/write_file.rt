@@ -5,7 +5,7 @@ use field::reader::new;
 use field::reader::past;
 use memory::edac::FileAddress;
 use memory::edac::show_file;
-use memory::edac::store_file;
+use read_only::store::store_file;
 ghost use mathlib.Core.Path.{_≡_};
 ghost use Prim.Native.Nat.{_-_, _≤_};
 ghost use lib.ListN.{length, drop};

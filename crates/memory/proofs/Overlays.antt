@@ -15,7 +15,7 @@ use Rattle.memory.proofs.Stretches.{a-store-keeps-the-length, stretch-b
 use Rattle.memory.proofs.Tests.{either-side}
 
 -- a stretch, byte by byte
-in-a-stretch : (held : List ℕ) (at count i : ℕ) → i < count → getD (stretch at count held) i 0 ≡ getD held (at + i) 0
+pub in-a-stretch : (held : List ℕ) (at count i : ℕ) → i < count → getD (stretch at count held) i 0 ≡ getD held (at + i) 0
 in-a-stretch held at count i h = getD-take count (drop at held) i 0 h ∙ getD-drop at held i 0
 
 one-of-a-stretch : (held : List ℕ) (at : ℕ) → getD (stretch at 1 held) 0 0 ≡ getD held at 0
@@ -34,10 +34,10 @@ a-byte-past-a-store held at bytes n fits past =
     ∙ one-of-a-stretch held n
 
 module _ (held : List ℕ) (at : ℕ) (bytes : List ℕ) (fits : at + length bytes ≤ length held) where
-  abbrev seen : ℕ → ℕ
+  abbrev pub seen : ℕ → ℕ
   seen n = cond (leb at n && ltb n (at + length bytes)) (getD bytes (n - at) 0) (getD held n 0)
 
-  a-byte-after-a-store : (n : ℕ) → getD (stored held at bytes) n 0 ≡ seen n
+  pub a-byte-after-a-store : (n : ℕ) → getD (stored held at bytes) n 0 ≡ seen n
   a-byte-after-a-store n =
       either-side at n
       (λ low. either-side (at + length bytes) n

@@ -3,8 +3,8 @@ use Prim.Native.Nat.{ℕ, zero, suc, _+_, _*_}
 use mathlib.Core.Bool.{Bool}
 use mathlib.Core.List.{List, _∷_}
 use lib.Dec.{leb}
-use lib.ListN.{drop, getD, set}
-use Rattle.memory.specs.Bytes.{stretch, stored}
+use lib.ListN.{getD}
+use Rattle.memory.specs.Bytes.{stretch}
 
 abbrev pub edacSize : ℕ
 edacSize = 1536
@@ -34,8 +34,3 @@ shownSize file = bodySize file + 1
 unfoldable pub fileShown : List ℕ → ℕ → List ℕ
 fileShown edac zero = 0 ∷ getD edac modePlace 0 ∷ stretch 0 4 edac
 fileShown edac (suc n) = suc n ∷ stretch (byteAddress (suc n)) 4 edac
-
--- EDAC memory after a file's body is stored: of file 0 the mode byte, then bytes 0 to 3; of others four bytes.
-unfoldable pub fileStored : List ℕ → ℕ → List ℕ → List ℕ
-fileStored edac zero body = stored (set edac modePlace (getD body 0 0)) 0 (drop 1 body)
-fileStored edac (suc n) body = stored edac (byteAddress (suc n)) body

@@ -1,6 +1,6 @@
 // Copies between lent buffers.
 ghost use mathlib.Core.Path.{_≡_};
-ghost use Prim.Native.Nat.{_+_, _≤_};
+ghost use Prim.Native.Nat.{_+_, _≤_, min};
 ghost use lib.ListN.{length};
 ghost use Rattle.memory.specs.Bytes.{stored};
 
@@ -14,4 +14,10 @@ pub fn put(bytes: &[u8], held: &mut [u8], at: usize)
         held[at + i] = bytes[i];
         i += 1;
     }
+}
+
+pub fn lesser(a: usize, b: usize) -> usize
+    ensures { λ r. ⌜ r ≡ min a b ⌝ }
+{
+    if a < b { a } else { b }
 }

@@ -4,13 +4,13 @@ ghost use mathlib.Core.Path.{_≡_};
 ghost use Prim.Native.Nat.{_+_, _≤_};
 ghost use lib.ListN.{length};
 ghost use Rattle.memory.specs.Bytes.{stored};
-ghost use Rattle.memory.specs.Edac.{edacSize, byteAddress, insideEdac, bodySize, shownSize, fileShown, fileStored};
+ghost use Rattle.memory.specs.Edac.{edacSize, byteAddress, insideEdac, shownSize, fileShown};
 
 // How many bytes EDAC memory has.
 pub const EDAC_SIZE: usize = 1536;
 
 // Where the mode byte of file 0 stands.
-const MODE: usize = 0x5c3;
+pub const MODE: usize = 0x5c3;
 
 // Counts words of four bytes.
 pub struct FileAddress(pub u8);
@@ -53,18 +53,4 @@ pub fn show_file(edac: &[u8], file: FileAddress, reply: &mut [u8], at: usize) ->
     let to = from + 4;
     put(&edac[from..to], reply, at + 1);
     at + 5
-}
-
-// Stores a file's body.
-pub fn store_file(edac: &mut [u8], file: FileAddress, body: &[u8])
-    requires { ⌜ (length (now edac) ≡ edacSize) × (length (now body) ≡ bodySize (file .0)) ⌝ }
-    ensures { λ _. ⌜ now (edac .exit) ≡ fileStored (now (edac .entry)) (file .0) (now (body .entry)) ⌝ }
-{
-    if file.0 == 0 {
-        edac[MODE] = body[0];
-        put(&body[1..], edac, 0);
-        return;
-    }
-    let start = file.bytes();
-    put(body, edac, start.0 as usize);
 }

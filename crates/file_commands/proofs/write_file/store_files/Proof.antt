@@ -4,7 +4,8 @@ use mathlib.Core.Path.{_≡_, refl, sym, ap, _∙_}
 use Prim.Native.Nat.{_+_, _-_}
 use native.Mathlib.Omega.{arith}
 use lib.ListN.{length, drop, getD}
-use Rattle.memory.specs.Edac.{edacSize, shownSize, bodySize, fileStored}
+use Rattle.memory.specs.Edac.{edacSize, shownSize, bodySize}
+use Rattle.read_only.specs.Files.{fileStored}
 use Rattle.memory.proofs.Stretches.{length-of-a-stretch}
 use Rattle.field.proofs.Lists.{list-ends}
 use Rattle.file_commands.specs.WriteFile.{listed, filesStored}

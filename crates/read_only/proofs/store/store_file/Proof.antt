@@ -1,11 +1,12 @@
--- `memory::edac::store_file` meets its contract, by one law for file 0 and one for any other. Assumes nothing.
+-- `read_only::store::store_file` meets its contract, by one law for file 0 and one for any other. Assumes nothing.
 use mathlib.Core.Path.{_∙_}
 use native.Mathlib.Omega.{arith}
 use lib.ListN.{length-set, length-take, length-drop}
-use Rattle.memory.proofs.Files.{size-of-file-0, size-of-another, store-file-0, store-another}
+use Rattle.memory.proofs.Files.{size-of-file-0, size-of-another}
+use Rattle.read_only.proofs.Files.{store-file-0, store-another}
 use borrow.Author.Needs.{needs}
-use Rattle.memory.proofs.edac.store_file.Statement.{statement}
-use Rattle.memory.proofs.edac.store_file.Tie as tie
+use Rattle.read_only.proofs.store.store_file.Statement.{statement}
+use Rattle.read_only.proofs.store.store_file.Tie as tie
 
 shared-slice-read-edac : tie.Need-shared-slice-read-edac
 shared-slice-read-edac c = omega (arith, size-of-file-0 _ (c .before .if1 .taken))
@@ -30,22 +31,24 @@ same-length : tie.Need-same-length
 same-length c = c .before .before .put .kept .1 .0 ∙ simp length-set
 
 returns : tie.Need-returns
-returns c = c .before .before .put .ensures ∙ store-file-0 _ _ _ (c .before .before .before .before .before .before .if1 .taken)
+returns c = c .before .before .put .ensures ∙ store-file-0 _ _ _ (c .before .before .before .before .before .before .before .before .before .before .pre .0) (c .before .before .before .before .before .before .before .before .before .before .pre .1) (c .before .before .before .before .before .before .if1 .taken)
 
 bytes-requires : tie.Need-bytes-requires
 bytes-requires c κs = search needs
 
-cast-put : tie.Need-cast-put
-cast-put c = search needs
+cast-store : tie.Need-cast-store
+cast-store c = search needs
 
-put-requires-2 : tie.Need-put-requires-2
-put-requires-2 c κs = omega (arith, size-of-another _ (c .before .before .before .if1 .left), c .before .before .bytes .ensures)
+store-requires : tie.Need-store-requires
+store-requires c κs =
+    let size = size-of-another _ (c .before .before .before .if1 .left) in
+    (search needs, omega (arith, size, c .before .before .bytes .ensures))
 
 same-length-2 : tie.Need-same-length-2
 same-length-2 c = search needs
 
 returns-2 : tie.Need-returns-2
-returns-2 c = c .before .before .put2 .ensures ∙ store-another _ _ _ _ (c .before .before .before .before .before .before .if1 .left) (c .before .before .before .before .before .bytes .ensures)
+returns-2 c = c .before .before .store .ensures ∙ store-another _ _ _ _ (c .before .before .before .before .before .before .if1 .left) (c .before .before .before .before .before .bytes .ensures)
 
 pub store-file-spec : {M : Type 1} → statement M
 store-file-spec =
@@ -60,7 +63,7 @@ store-file-spec =
     same-length
     returns
     bytes-requires
-    cast-put
-    put-requires-2
+    cast-store
+    store-requires
     same-length-2
     returns-2)

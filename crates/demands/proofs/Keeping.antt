@@ -1,0 +1,153 @@
+-- 02, T-02: no bytes on the line change a read-only byte of EDAC memory. Assumes nothing.
+use mathlib.Core.Path.{_≡_, refl, sym, subst}
+use mathlib.Core.List.{List, [], _∷_}
+use Prim.Native.Nat.{ℕ, _-_}
+use native.Mathlib.Omega.{arith}
+use lib.Dec.{eqb, ltb}
+use lib.ListN.{length, drop}
+use Rattle.line.specs.Packing.{messageSize}
+use Rattle.line.specs.Receiver.{receiveOf}
+use Rattle.field.specs.Fields.{word16At}
+use Rattle.field.specs.Reading.{isWhole}
+use Rattle.memory.specs.Edac.{insideEdac}
+use Rattle.read_only.specs.ReadOnly.{KeepsReadOnly}
+use Rattle.read_only.proofs.Keeping.{kept-at-first, also-kept, a-write-keeps-read-only-bytes}
+use Rattle.carrying.specs.Ending.{longestData, Ending, done, refused, unfitted}
+use Rattle.carrying.specs.Held.{Held, held, inside, reading, onEdac}
+use Rattle.carrying.proofs.Room.{either-way}
+use Rattle.fram_commands.specs.Peek.{peekOf}
+use Rattle.fram_commands.specs.Poke.{pokeOf}
+use Rattle.fram_commands.specs.Crc.{crcOf}
+use Rattle.file_commands.specs.ReadFile.{readFileOf}
+use Rattle.file_commands.specs.WriteFile.{listed, writeFileOf}
+use Rattle.file_commands.proofs.Storing.{files-keep-read-only-bytes}
+use Rattle.edac_commands.specs.ReadEdac.{readEdacOf}
+use Rattle.edac_commands.specs.WriteEdac.{writeEdacOf}
+use Rattle.edac_commands.specs.Gather.{gatherOf}
+use Rattle.command.specs.Ping.{pingOf}
+use Rattle.command.specs.Init.{initOf}
+use Rattle.command.specs.Diagnostic.{diagnosticOf}
+use Rattle.command.specs.Command.{commandOf}
+use Rattle.command.proofs.Codes.{of-any-command}
+use Rattle.judging.specs.declared.Unit.{Unit}
+use Rattle.judging.specs.declared.fitting.Fit.{Fit}
+use Rattle.judging.specs.declared.fitting.Fit.the-variants.{Fits, Unfit}
+use Rattle.judging.specs.Fitting.{setUpFit}
+use Rattle.judging.specs.Judging.{withReceiver}
+use Rattle.replying.specs.Replies.{codeOf}
+use Rattle.unit.specs.World.{World, lengthsOf, Outcome, withMessage, heldOf}
+use Rattle.unit.specs.Steps.{setUpAs, setUpOf, firstOfFram, answered, stepOf}
+use Rattle.demands.specs.Keeping.{LineCall, setting-up, stepping, onThis, edacLeft}
+use Rattle.demands.proofs.Cases.{of-any-call}
+use Rattle.demands.proofs.DemandThree.{Keeps, keeps-inside}
+
+-- ---- one command
+
+-- what a command on EDAC memory leaves of it
+write-edac-keeps : (room : ℕ) (edac field : List ℕ) → Keeps (KeepsReadOnly edac) (writeEdacOf room edac field)
+unfolding writeEdacOf
+write-edac-keeps room edac field =
+    either-way (Keeps (KeepsReadOnly edac)) (ltb (length field) 3) _ _ (λ _. omega arith)
+    (λ _. either-way (Keeps (KeepsReadOnly edac)) (ltb room (length field)) _ _ (λ _. omega arith)
+    (λ _. either-way (Keeps (KeepsReadOnly edac)) (insideEdac (word16At field 0) (length field - 2)) _ _
+    (λ _. a-write-keeps-read-only-bytes edac (word16At field 0) (drop 2 field)) (λ _. omega arith)))
+
+write-file-keeps : (room : ℕ) (edac field : List ℕ) → Keeps (KeepsReadOnly edac) (writeFileOf room edac field)
+unfolding writeFileOf
+write-file-keeps room edac field =
+    either-way (Keeps (KeepsReadOnly edac)) (eqb (length field) 0) _ _ (λ _. omega arith)
+    (λ _. either-way (Keeps (KeepsReadOnly edac)) (ltb room (length field)) _ _ (λ _. omega arith)
+    (λ _. either-way (Keeps (KeepsReadOnly edac)) (isWhole (listed field)) _ _
+    (λ _. files-keep-read-only-bytes edac (listed field)) (λ _. omega arith)))
+
+-- and any other leaves it as it is
+keeps-all : {M : Type 0} (edac : List ℕ) (f : M → Held) → ((m : M) → f m .edac ≡ edac) → (o : Ending M) → Keeps (λ h. KeepsReadOnly edac (h .edac)) (inside f o)
+keeps-all edac f same (done reply after) = subst (KeepsReadOnly edac) (sym (same after)) (kept-at-first edac)
+keeps-all edac f same refused = omega arith
+keeps-all edac f same unfitted = omega arith
+
+command-keeps : (room first code : ℕ) (diagnostics : List ℕ) (now : Held) (field : List ℕ)
+    → Keeps (λ h. KeepsReadOnly (now .edac) (h .edac)) (commandOf room first code diagnostics now field)
+command-keeps room first code diagnostics now field =
+    of-any-command (Keeps (λ h. KeepsReadOnly (now .edac) (h .edac))) room first code diagnostics now field (omega arith) (
+      still pingOf,
+      (
+        keeps-all (now .edac) (λ mode. held mode (now .edac) (now .memory)) (λ m. refl) (initOf (now .mode) field),
+        (
+          still (peekOf room first (now .memory .fram) field),
+          (
+            keeps-all (now .edac) (λ memory. held (now .mode) (now .edac) memory) (λ m. refl) (pokeOf room first (now .memory) field),
+            (
+              still (diagnosticOf room diagnostics field),
+              (
+                still (crcOf first (now .memory) field),
+                (
+                  still (readFileOf room (now .edac) field),
+                  (
+                    in-edac (writeFileOf room (now .edac) field) (write-file-keeps room (now .edac) field),
+                    (
+                      still (readEdacOf room (now .edac) field),
+                      (in-edac (writeEdacOf room (now .edac) field) (write-edac-keeps room (now .edac) field), (still (gatherOf room (now .edac) field), tt)),
+                    ),
+                  ),
+                ),
+              ),
+            ),
+          ),
+        ),
+      ),
+    )
+  where
+    still : (o : Ending (Prim.Unit {0})) → Keeps (λ h. KeepsReadOnly (now .edac) (h .edac)) (reading now o)
+    still o = keeps-all (now .edac) (λ _. now) (λ m. refl) o
+
+    in-edac : (o : Ending (List ℕ)) → Keeps (KeepsReadOnly (now .edac)) o → Keeps (λ h. KeepsReadOnly (now .edac) (h .edac)) (onEdac now o)
+    in-edac o k = keeps-inside (KeepsReadOnly (now .edac)) (λ h. KeepsReadOnly (now .edac) (h .edac)) (λ edac. held (now .mode) edac (now .memory)) (λ m g. g) o k
+
+-- ---- one call
+
+answered-keeps : (u : Unit) (destination source control : ℕ) (field : List ℕ) (o : Ending Held) (w : World) → Keeps (λ h. KeepsReadOnly (w .edac) (h .edac)) o
+    → KeepsReadOnly (w .edac) (answered u destination source control field o w .world .edac)
+unfolding answered
+answered-keeps u destination source control field (done reply after) w k = k
+answered-keeps u destination source control field refused w k = kept-at-first (w .edac)
+answered-keeps u destination source control field unfitted w k = kept-at-first (w .edac)
+
+pub a-step-keeps-read-only-bytes : (u : Unit) (byte : ℕ) (w : World) → KeepsReadOnly (w .edac) (stepOf u byte w .world .edac)
+a-step-keeps-read-only-bytes u byte w =
+    of-any-call (λ (o : Outcome). KeepsReadOnly (w .edac) (o .world .edac)) u byte w (λ answer e. kept-at-first (w .edac))
+    (λ _.
+    let got = receiveOf messageSize (u .receiver) byte (w .message) in
+    let next = withReceiver u (got .receiver) in
+    let lent = withMessage w (got .message) in
+    record {
+      taken = kept-at-first (w .edac);
+      elsewhere = kept-at-first (w .edac);
+      dropped = λ answer which number four silent. kept-at-first (w .edac);
+      commanded = λ destination source control field short.
+          answered-keeps next destination source control field (commandOf longestData firstOfFram (codeOf control) (w .diagnostics) (heldOf next lent) field) lent
+          (command-keeps longestData firstOfFram (codeOf control) (w .diagnostics) (heldOf next lent) field);
+    })
+
+-- a set-up leaves EDAC memory as it is
+pub a-set-up-keeps-edac : (address : ℕ) (w : World) → setUpOf address w .world .edac ≡ w .edac
+unfolding setUpOf
+a-set-up-keeps-edac address w = apart (setUpFit address (lengthsOf w))
+  where
+    apart : (f : Fit) → setUpAs f address w .world .edac ≡ w .edac
+    apart Fits = refl
+    apart (Unfit answer) = refl
+
+-- ---- any calls
+
+-- T-02. Let nothing but calls of `set_up` and `step` change EDAC memory, on whatever units, with whatever bytes and whatever else they
+-- lend, of any length, refused or not. After any of them it is as long as it was, and each of its read-only bytes has the value that it
+-- had.
+pub no-bytes-change-a-read-only-byte : (edac : List ℕ) (calls : List LineCall) → KeepsReadOnly edac (edacLeft edac calls)
+no-bytes-change-a-read-only-byte edac [] = kept-at-first edac
+no-bytes-change-a-read-only-byte edac (setting-up address w ∷ calls) =
+    also-kept (subst (KeepsReadOnly edac) (sym (a-set-up-keeps-edac address (onThis edac w))) (kept-at-first edac))
+    (no-bytes-change-a-read-only-byte (setUpOf address (onThis edac w) .world .edac) calls)
+no-bytes-change-a-read-only-byte edac (stepping u c ∷ calls) =
+    also-kept (a-step-keeps-read-only-bytes u (c .byte) (onThis edac (c .lent)))
+    (no-bytes-change-a-read-only-byte (stepOf u (c .byte) (onThis edac (c .lent)) .world .edac) calls)

@@ -1,0 +1,23 @@
+-- Calls one after the other on one EDAC memory, as 02, T-02 speaks of it: no bytes on the line change a read-only byte. Assumes nothing.
+use Prim.Native.Nat.{ℕ}
+use mathlib.Core.List.{List, [], _∷_}
+use Rattle.judging.specs.declared.Unit.{Unit}
+use Rattle.unit.specs.World.{World, world}
+use Rattle.unit.specs.Steps.{setUpOf, stepOf}
+use Rattle.demands.specs.Calls.{Call}
+
+-- A call of `set_up` for an address, or of `step` on a unit. All that it names may be anything, of any length, and another thing at each
+-- call, the unit too: a call that is refused is a call. Only in place of the EDAC memory that it names it is lent the one spoken of.
+pub data LineCall : Type 0 where
+  setting-up : ℕ → World → LineCall
+  stepping : Unit → Call → LineCall
+
+-- What is lent, with this EDAC memory in place of the one named.
+abbrev pub onThis : List ℕ → World → World
+onThis edac w = world edac (w .fram) (w .sums) (w .diagnostics) (w .message) (w .reply)
+
+-- EDAC memory after calls one after the other, where nothing else changes it.
+abbrev pub edacLeft : List ℕ → List LineCall → List ℕ
+edacLeft edac [] = edac
+edacLeft edac (setting-up address w ∷ calls) = edacLeft (setUpOf address (onThis edac w) .world .edac) calls
+edacLeft edac (stepping u c ∷ calls) = edacLeft (stepOf u (c .byte) (onThis edac (c .lent)) .world .edac) calls

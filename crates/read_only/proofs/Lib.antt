@@ -1,0 +1,5 @@
+pub mod Keeping
+pub mod Runs
+pub mod Examples
+pub mod Turns
+pub mod Files

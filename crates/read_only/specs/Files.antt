@@ -1,0 +1,16 @@
+-- Files of EDAC memory written: 01, "Commands", ICD 11.12; 02, T-02. Assumes nothing.
+use Prim.Native.Nat.{ℕ, zero, suc}
+use mathlib.Core.Bool.{Bool}
+use mathlib.Core.List.{List}
+use lib.ListN.{take, drop}
+use Rattle.memory.specs.Edac.{modePlace, byteAddress}
+use Rattle.read_only.specs.ReadOnly.{readOnly, written}
+
+-- EDAC memory after a file's body is written: of file 0 the mode byte, then bytes 0 to 3; of others four bytes.
+unfoldable pub fileStored : List ℕ → ℕ → List ℕ → List ℕ
+fileStored edac zero body = written (written edac modePlace (take 1 body)) 0 (drop 1 body)
+fileStored edac (suc n) body = written edac (byteAddress (suc n)) body
+
+-- Whether a file is read-only, by its first byte: of a file address, 0 to 255, the four bytes stand alike (`a-file-stands-alike`).
+abbrev pub fileReadOnly : ℕ → Bool
+fileReadOnly file = readOnly (byteAddress file)
