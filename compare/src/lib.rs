@@ -1,4 +1,4 @@
-//! The proved code as Rust calls it, beside plain Rust that was written from the ICD and 01 alone.
+//! The proved code as Rust calls it, beside plain Rust that was written from the ICD, 01 and 02 alone.
 
 pub mod differ;
 pub mod plain;

@@ -38,6 +38,20 @@ fn every_answer_and_every_command_comes_often() {
     for answer in [0, 36] {
         assert!(tally.joined.of(answer) >= 50, "{answer}:\n{tally}");
     }
+    // Every read-only row is written over and beside and shown in every way, and every file written.
+    let missed = tally.rows.missed();
+    assert!(missed.is_empty(), "{missed:#?}\n{tally}");
+}
+
+#[test]
+fn a_run_that_is_too_short_says_what_it_missed() {
+    // 39 rows in nine ways, but for the two ways by file of the one that is no file, and 256 files.
+    let all = 39 * 9 - 2 + 256;
+    let mut tally = Tally::default();
+    assert_eq!(tally.rows.missed().len(), all);
+    session(&Second, &Second, 1, &mut tally).unwrap();
+    let missed = tally.rows.missed().len();
+    assert!(0 < missed && missed < all, "{missed}");
 }
 
 /// A wheel that notes each call, and halts at one of them.

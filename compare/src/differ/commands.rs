@@ -1,6 +1,7 @@
 //! Commands at the edges of their fields: a code and its data, mostly such that a unit takes it or only just refuses it.
 
 use crate::record::{Mode, Record};
+use crate::second::read_only::{Row, ROWS};
 use crate::Seeded;
 
 const FIRST: i64 = 0x2004_0000;
@@ -188,14 +189,20 @@ fn diagnostic(seeded: &mut Seeded) -> Vec<u8> {
     channels
 }
 
-/// A file address: any, few so that a list names one twice, and file 0 often.
+/// A file address: any, few so that a list names one twice, read-only ones and file 0 often.
 fn file(seeded: &mut Seeded) -> u8 {
-    match seeded.below(6) {
+    match seeded.below(7) {
         0 => 0,
         1 => seeded.pick(&[1, 0xFF, 0xFE, 0x28]),
         2 | 3 => 1 + seeded.below(4) as u8,
+        4 => file_of(seeded.pick(&ROWS)).unwrap_or(0),
         _ => seeded.number() as u8,
     }
+}
+
+/// The file that a row is, if it is one.
+fn file_of(row: Row) -> Option<u8> {
+    u8::try_from(row.first / 4).ok()
 }
 
 /// Files whose structures fill a data field to its edge: six bytes for each file 0, five for each other.
@@ -232,18 +239,80 @@ fn write_file(seeded: &mut Seeded) -> Vec<u8> {
             (0..length).map(|_| file(seeded)).collect()
         }
     };
-    let mut data = Vec::new();
-    for file in files {
-        data.push(file);
-        data.extend(seeded.bytes(if file == 0 { 5 } else { 4 }));
-    }
+    let mut data = structures(seeded, &files);
     if seeded.one_in(6) {
         data.truncate(data.len() - seeded.below(7).min(data.len()));
     }
     data
 }
 
-/// An EDAC range: anywhere, about the end, about the mode's byte, or as 01's table of edges has it.
+/// Files with a value for each.
+fn structures(seeded: &mut Seeded, files: &[u8]) -> Vec<u8> {
+    let mut data = Vec::new();
+    for &file in files {
+        data.push(file);
+        data.extend(seeded.bytes(if file == 0 { 5 } else { 4 }));
+    }
+    data
+}
+
+/// Commands that write over and beside one read-only row, by its addresses and by its file, and one that shows it. They
+/// need application mode.
+pub fn about_a_row(seeded: &mut Seeded, mode: Mode) -> Vec<(u8, Vec<u8>)> {
+    let row = seeded.pick(&ROWS);
+    let mut list = Vec::new();
+    if mode == Mode::Bootloader {
+        list.push((0x01, APPLICATION.to_vec()));
+    }
+    for _ in 0..1 + seeded.below(4) {
+        list.push(row_written(seeded, row));
+    }
+    list.push(row_shown(seeded, row));
+    list
+}
+
+fn row_written(seeded: &mut Seeded, row: Row) -> (u8, Vec<u8>) {
+    match file_of(row) {
+        Some(file) if seeded.one_in(4) => {
+            let mut files = vec![file - 1, file, file + 1];
+            files.extend(seeded.pick(&[&[][..], &[0], &[file], &[0, file]]));
+            let first = seeded.below(files.len());
+            files.rotate_left(first);
+            (0x08, structures(seeded, &files))
+        }
+        _ => {
+            let (start, count) = row_range(seeded, row);
+            let stored = bytes(seeded, count);
+            (0x0A, [&start.to_le_bytes()[..], &stored].concat())
+        }
+    }
+}
+
+fn row_shown(seeded: &mut Seeded, row: Row) -> (u8, Vec<u8>) {
+    let start = (row.first as u16 - 1).to_le_bytes();
+    let count = (row.last - row.first + 3) as u8;
+    match (seeded.below(3), file_of(row)) {
+        (0, Some(file)) => (0x07, vec![file - 1, file, file + 1, file]),
+        (0 | 1, _) => (0x09, vec![start[0], start[1], count]),
+        _ => (0x0B, [start[0], start[1], count, 0].repeat(2)),
+    }
+}
+
+/// An EDAC range about a read-only row: over it with bytes on either side, up to it, from its end on, or with an end in it.
+fn row_range(seeded: &mut Seeded, row: Row) -> (u16, usize) {
+    let (first, behind) = (row.first, row.last + 1);
+    let (inside, more) = (first + seeded.below(behind - first), seeded.below(4));
+    let (start, end) = match seeded.below(5) {
+        0 => (first - 1 - more, behind + 1 + seeded.below(4)),
+        1 => (first - 1 - more, first),
+        2 => (behind, behind + 1 + more),
+        3 => (inside - more, inside + 1),
+        _ => (inside, inside + 1 + more),
+    };
+    (start as u16, end - start)
+}
+
+/// An EDAC range: anywhere, about a read-only row, about the end, about the mode's byte, or as 01's table of edges has it.
 fn edac_range(seeded: &mut Seeded) -> (u16, usize) {
     if seeded.one_in(5) {
         return seeded.pick(&[
@@ -258,6 +327,10 @@ fn edac_range(seeded: &mut Seeded) -> (u16, usize) {
             (1_535, 2),
             (1_536, 1),
         ]);
+    }
+    if seeded.one_in(5) {
+        let row = seeded.pick(&ROWS);
+        return row_range(seeded, row);
     }
     let start = match seeded.below(10) {
         0 => 0,

@@ -10,6 +10,11 @@ const FESC: u8 = 0xDB;
 /// A sound message for a unit with this record.
 pub fn message(seeded: &mut Seeded, record: &Record) -> Vec<u8> {
     let (code, data) = commands::command(seeded, record);
+    message_of(seeded, record, code, &data)
+}
+
+/// A sound message with this code and data.
+pub fn message_of(seeded: &mut Seeded, record: &Record, code: u8, data: &[u8]) -> Vec<u8> {
     // Poll mostly set, since a reply shows what was done; B and the incoming ACK as it falls.
     let poll = if seeded.one_in(5) { 0x00 } else { 0x80 };
     let control = poll | seeded.pick(&[0x00, 0x20, 0x40, 0x60]) | code;

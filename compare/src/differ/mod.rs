@@ -2,12 +2,13 @@
 //! agree, and after every FEND and every refusal every lent buffer whole, with the cells beyond what was lent.
 //!
 //! A session is a unit's life from its seed alone: `play` chooses what happens, `commands` and `lines` make the bytes,
-//! `pair` feeds both wheels and holds them against each other.
+//! `pair` feeds both wheels and holds them against each other, `tally` and `rows` keep what was reached.
 
 mod commands;
 mod lines;
 mod pair;
 mod play;
+mod rows;
 mod tally;
 
 use crate::wheel::Wheel;

@@ -101,6 +101,8 @@ impl<'a> Pair<'a> {
         let code = self.sides[0].message[2] & 0x1F;
         let (record, lengths) = (self.record, self.lengths);
         let [left, right] = &mut self.sides;
+        // For the tally: what a command finds, if this closes one.
+        let held = (byte == FEND).then(|| left.edac.clone());
         let call = || format!("byte {byte:#04x}, {record:?}, {lengths:?}");
         let one = returned(|| self.first.step(record, byte, lent(left, &lengths)), call)?;
         let two = returned(
@@ -112,6 +114,10 @@ impl<'a> Pair<'a> {
             same_buffers(left, right, call)?;
         }
         self.tally.byte(one.answer, code);
+        if let (1 | 2, Some(held)) = (one.answer, held) {
+            let data = &left.message[3..record.count - 2];
+            self.tally.rows.done(code, data, &held);
+        }
         self.offset += 1;
         self.record = one.record;
         Ok(one.answer)

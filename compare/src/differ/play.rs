@@ -3,6 +3,7 @@
 use super::pair::{Lengths, Pair, LARGEST};
 use super::{commands, lines};
 use crate::record::{Mode, Place, Record};
+use crate::second::read_only::ROWS;
 use crate::{Part, Seeded};
 
 const FEND: u8 = 0xC0;
@@ -33,7 +34,8 @@ pub fn play(pair: &mut Pair, seeded: &mut Seeded) -> Played {
     let bytes = bytes_with(pair.lengths.fram);
     while pair.offset < bytes {
         match seeded.below(64) {
-            0..=31 => sound_run(pair, seeded)?,
+            0..=28 => sound_run(pair, seeded)?,
+            29..=31 => read_only_row(pair, seeded)?,
             32..=35 => repeated(pair, seeded)?,
             36..=43 => spoiled_run(pair, seeded)?,
             44..=46 => pair.bytes(&lines::noise(seeded))?,
@@ -115,6 +117,15 @@ fn sound_run(pair: &mut Pair, seeded: &mut Seeded) -> Played {
     run(pair, seeded, &lines::escaped(&message))
 }
 
+/// One read-only row written over and beside, and read.
+fn read_only_row(pair: &mut Pair, seeded: &mut Seeded) -> Played {
+    for (code, data) in commands::about_a_row(seeded, pair.record.mode) {
+        let message = lines::message_of(seeded, &pair.record, code, &data);
+        run(pair, seeded, &lines::escaped(&message))?;
+    }
+    Ok(())
+}
+
 /// The same command twice: where it stores, the second time it stores what is there. Its sums may have been altered.
 fn repeated(pair: &mut Pair, seeded: &mut Seeded) -> Played {
     let message = lines::message(seeded, &pair.record);
@@ -182,7 +193,12 @@ fn altered_memory(pair: &mut Pair, seeded: &mut Seeded) {
             pair.alter(|lent| lent.fram[at] = byte);
         }
         4 => {
-            let at = seeded.pick(&[0, 1, 3, 4, 0x5C2, 0x5C3, 0x5C4, 1_020, 1_535]);
+            let at = match seeded.below(3) {
+                0 => seeded.pick(&[0, 1, 3, 4, 0x5C2, 0x5C3, 0x5C4, 1_020, 1_535]),
+                // As the drive does with its telemetry.
+                1 => seeded.pick(&ROWS).first,
+                _ => seeded.below(1_536),
+            };
             pair.alter(|lent| lent.edac[at] = byte);
         }
         5 => pair.alter(|lent| lent.message.fill(byte)),

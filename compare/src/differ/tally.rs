@@ -1,5 +1,6 @@
 //! What the streams reached: a comparison says little about what never came.
 
+use super::rows::Rows;
 use std::fmt;
 
 /// How often each number of 01 was answered.
@@ -41,6 +42,8 @@ pub struct Tally {
     pub set_ups: Times,
     pub packed: Times,
     pub joined: Times,
+    /// What was done about the read-only rows.
+    pub rows: Rows,
 }
 
 impl Tally {
@@ -62,6 +65,7 @@ impl fmt::Display for Tally {
         }
         writeln!(f, "  set-up: {}", self.set_ups)?;
         writeln!(f, "  packing alone: {}", self.packed)?;
-        write!(f, "  joining: {}", self.joined)
+        writeln!(f, "  joining: {}", self.joined)?;
+        write!(f, "  {}", self.rows)
     }
 }

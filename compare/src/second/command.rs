@@ -181,14 +181,15 @@ fn read_edac(data: &[u8], edac: &[u8]) -> Done {
     Ok([&data[..2], &edac[range]].concat())
 }
 
+/// The reply shows what memory holds afterwards, which need not be what was sent (02, T-02).
 fn write_edac(data: &[u8], edac: &mut [u8]) -> Done {
     if data.len() < 3 {
         return Err(No::Refused);
     }
     let (address, bytes) = data.split_at(2);
     let range = edac::range(half_word(address), bytes.len())?;
-    edac[range].copy_from_slice(bytes);
-    Ok(data.to_vec())
+    edac::store(range.clone(), bytes, edac);
+    Ok([address, &edac[range]].concat())
 }
 
 fn gather(data: &[u8], edac: &[u8]) -> Done {

@@ -1,6 +1,7 @@
 //! 01, Commands (ICD 11.11 to 11.15, 12.4): EDAC memory by byte and by file.
 
 use super::command::No;
+use super::read_only;
 use std::ops::Range;
 
 const LEN: usize = 1_536;
@@ -47,8 +48,17 @@ pub fn file(file: u8, edac: &[u8]) -> Vec<u8> {
 pub fn store_file(structure: &[u8], edac: &mut [u8]) {
     let (file, mut value) = (structure[0], &structure[1..]);
     if file == 0 {
-        edac[MODE] = value[0];
+        store(MODE..MODE + 1, &value[..1], edac);
         value = &value[1..];
     }
-    edac[bytes_of(file)].copy_from_slice(value);
+    store(bytes_of(file), value, edac);
+}
+
+/// Stores bytes, but for those that are read-only (02, T-02): they keep their value, and the rest is stored all the same.
+pub fn store(range: Range<usize>, bytes: &[u8], edac: &mut [u8]) {
+    for (at, &byte) in range.zip(bytes) {
+        if !read_only::keeps(at) {
+            edac[at] = byte;
+        }
+    }
 }

@@ -1,9 +1,9 @@
-//! The whole unit of 01 a second time, in plain Rust: what the proved unit is held against. It is written from 01 and the
-//! ICD alone and shares no line with the proved one. It has no table and keeps nothing between calls, and each sum is
-//! worked out bit by bit wherever 01 does not say that it comes from the kept ones.
+//! The whole unit of 01 a second time, with T-02 of 02, in plain Rust: what the proved unit is held against. It is written
+//! from 01, 02 and the ICD alone and shares no line with the proved one. It has no table of sums and keeps nothing between
+//! calls, and each sum is worked out bit by bit wherever 01 does not say that it comes from the kept ones.
 //!
 //! A byte's way: `refusals` judges what is lent, `line` unpacks, `closing` judges a closed run, `command` carries it out on
-//! `edac` and `fram`, and `line` packs the reply.
+//! `edac`, where `read_only` says which bytes stay, and `fram`, and `line` packs the reply.
 
 mod closing;
 mod command;
@@ -11,6 +11,7 @@ mod crc;
 mod edac;
 mod fram;
 mod line;
+pub mod read_only;
 mod refusals;
 
 use crate::record::{Mode, Place, Record, REFUSED};

@@ -1,5 +1,6 @@
 //! The commands: what each does, shows and refuses.
 use crate::bench::*;
+use crate::read_only::after;
 use compare::record::Mode;
 
 #[test]
@@ -195,31 +196,40 @@ fn write_file() {
 #[test]
 fn write_file_fills_the_data_field() {
     let mut unit = Bench::application();
-    let file = |n: u8| vec![n, n, !n, n, n];
-    let mut list = Vec::new();
+    let mut due = unit.edac.clone();
+    let (mut list, mut shown_due) = (Vec::new(), Vec::new());
     for n in 1..=202 {
-        list.extend(file(n));
+        let (value, start) = ([n, !n, n, n], 4 * usize::from(n));
+        list.push(n);
+        list.extend(value);
+        // A read-only file shows what it keeps.
+        due = after(&due, start, &value);
+        shown_due.push(n);
+        shown_due.extend(&due[start..start + 4]);
     }
     for mode in 1..=3 {
         list.extend([0, mode, mode, 0, 0, 0]);
     }
     assert_eq!(list.len(), 1_028);
     let shown = unit.done(0x08, &list);
-    assert_eq!(shown[..1_010], list[..1_010]);
+    assert_eq!(shown[..1_010], shown_due);
     assert_eq!(shown[1_010..], [0, 3, 3, 0, 0, 0].repeat(3));
+    due[0x5C3] = 3;
+    due[..4].copy_from_slice(&[3, 0, 0, 0]);
+    assert_eq!(unit.edac, due);
     list.truncate(1_027);
     unit.refuses(0x08, &list);
 }
 
 #[test]
-fn every_edac_byte_can_be_written() {
+fn write_edac_at_both_ends_of_memory() {
+    // Every byte can be reached; those that are read-only keep their value and are shown as they are.
     let mut unit = Bench::application();
     for (start, length) in [(0, 1_026), (510, 1_026), (1_535, 1)] {
         let bytes = vec![start as u8 ^ 0xDB; length];
-        let data = edac_at(start, &bytes);
-        let mut due = unit.edac.clone();
-        due[start as usize..][..length].copy_from_slice(&bytes);
-        assert_eq!(unit.done(0x0A, &data), data);
+        let due = after(&unit.edac, usize::from(start), &bytes);
+        let shown = unit.done(0x0A, &edac_at(start, &bytes));
+        assert_eq!(shown, edac_at(start, &due[usize::from(start)..][..length]));
         assert_eq!(unit.edac, due);
     }
     unit.refuses(0x0A, &edac_at(511, &[0; 1_026]));
