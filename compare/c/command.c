@@ -107,6 +107,14 @@ int main(int count, char **words) {
         add_files(168, 0);
         return done(0x08, 1028);
     }
+    if (strcmp(word, "edac") == 0) {
+        add(1);
+        add(0);
+        for (int i = 0; i < 1026; i++) {
+            add(0x5A);
+        }
+        return done(0x0A, 1028);
+    }
     if (strcmp(word, "ranges") == 0) {
         add_ranges(204, 1);
         add_ranges(1, 4);

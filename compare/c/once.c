@@ -16,9 +16,14 @@ static size_t dear(unsigned long code, uint8_t *data) {
         memcpy(data, second, sizeof second);
         return code == 0x03 ? 1028 : 8;
     }
-    if (code == 0x08) { /* WRITE FILE: 202 files and 3 times file 0 */
+    if (code == 0x0A) { /* WRITE EDAC of 1,026 bytes from 0x001 on, over 38 read-only rows */
+        data[0] = 1;
+        data[1] = 0;
+        return 1028;
+    }
+    if (code == 0x08) { /* WRITE FILE: 202 files, a writable one behind all rows of its page, and 3 times file 0 */
         for (int i = 0; i < 205; i++) {
-            data[length] = i < 202 ? 1 : 0;
+            data[length] = i < 202 ? 0x28 : 0;
             length += i < 202 ? 5 : 6;
         }
         return length;

@@ -81,10 +81,25 @@ store-file-0 edac body file size five e =
     ap (stored (set edac modePlace (getD body 0 0)) 0) (take-all (length body - 1) (drop 1 body) (simp length-drop (omega arith)))
     ∙ sym (ap (λ (f : ℕ). fileStored edac f body) e ∙ file-0-is-stored edac body size (five ∙ ap bodySize e))
 
-pub store-another : (edac body : List ℕ) (file start : ℕ) → (file ≡ 0 → ⊥) → start ≡ byteAddress file → written edac start body ≡ fileStored edac file body
-unfolding fileStored
-store-another edac body zero start other e = absurd (other refl)
-store-another edac body (suc n) start other e = rw e
+-- the two ways of any other file, by how its first byte stands
+module _ (edac body : List ℕ) (file start : ℕ) (so : Bool) (size : length edac ≡ edacSize) (small : file < 256) (long : length body ≡ bodySize file)
+    (other : file ≡ 0 → ⊥) (e : start ≡ byteAddress file) (stands : so ≡ readOnly start) where
+  pub store-another : so ≡ false → stored edac start body ≡ fileStored edac file body
+  unfolding bodySize
+  store-another free = by-file file small long other (sym e) (ap readOnly (sym e) ∙ sym stands ∙ free)
+    where
+      by-file : (f : ℕ) → f < 256 → length body ≡ bodySize f → (f ≡ 0 → ⊥) → byteAddress f ≡ start → fileReadOnly f ≡ false → stored edac start body ≡ fileStored edac f body
+      by-file zero low four none at free = absurd (none refl)
+      by-file (suc n) low four none at free =
+          ap (λ (a : ℕ). stored edac a body) (sym at) ∙ sym (a-writable-file-is-stored edac n body size (omega arith) four free)
+
+  pub leave-another : so ≡ true → edac ≡ fileStored edac file body
+  unfolding bodySize
+  leave-another kept = by-file file small long other (ap readOnly (sym e) ∙ sym stands ∙ kept)
+    where
+      by-file : (f : ℕ) → f < 256 → length body ≡ bodySize f → (f ≡ 0 → ⊥) → fileReadOnly f ≡ true → edac ≡ fileStored edac f body
+      by-file zero low four none kept = absurd (none refl)
+      by-file (suc n) low four none kept = sym (a-read-only-file-is-left-alone edac n body size (omega arith) four kept)
 
 pub a-stored-file-keeps-read-only-bytes : (edac : List ℕ) (file : ℕ) (body : List ℕ) → KeepsReadOnly edac (fileStored edac file body)
 unfolding fileStored

@@ -128,6 +128,11 @@ in-either start first end e f at low high =
     (λ past. ap (λ b. cond b (run false first) (run true end)) (le-ltb at first past) ∙ in-a-run true first end f at past high)
     (λ before. ap (λ b. cond b (run false first) (run true end)) (lt-ltb at first before) ∙ in-a-run false start first e at low before)
 
+-- the byte that was asked for
+pub asked-of-a-run : (r : Run) (at : ℕ) → r ≡ runOf at → r .«read_only» ≡ readOnly at
+unfolding runOf
+asked-of-a-run r at is = ap (λ (run : Run). run .«read_only») is
+
 -- ---- one step of a store: to the end of the run, or of the bytes
 
 module _ (r : Run) (here : ℕ) (is : r ≡ runOf here) (inside : here < edacSize) where

@@ -38,5 +38,10 @@ pub fn store_file(edac: &mut [u8], file: FileAddress, body: &[u8])
         return;
     }
     let start = file.bytes();
-    store(body, edac, start.0 as usize);
+    let at = start.0 as usize;
+    // A file's four bytes are read-only or writable together, so its first one is asked for all.
+    let run = run_from(at);
+    if !run.read_only {
+        put(body, edac, at);
+    }
 }
