@@ -15,7 +15,7 @@ extern "C" {
 #endif
 
 /* What is lent to a unit, in elements of its type. FRAM is a multiple of WHEEL_FRAM_BLOCK. */
-#define WHEEL_EDAC 1536u         /* uint8_t, exactly */
+#define WHEEL_EDAC 1536u         /* uint8_t, exactly; 153 of them are read-only on the line (docs/EDAC.md) */
 #define WHEEL_FRAM_LEAST 256u    /* uint8_t */
 #define WHEEL_FRAM_MOST 262144u  /* uint8_t */
 #define WHEEL_FRAM_BLOCK 256u    /* one sum, a uint16_t, for each block of so many bytes of FRAM, exactly */
@@ -106,7 +106,11 @@ struct wheel_stepped wheel_set_up(uint8_t address, const uint8_t *edac, size_t e
  * them, and while a run is open the message buffer is to be left alone; the rest may be another at each call. Where it answers
  * WHEEL_ACKED or WHEEL_NACKED, the first `sent` bytes of the reply buffer are to be sent; the others of that buffer, and
  * all of it where nothing is sent, are as they were. With WHEEL_BAD_ADDRESS to WHEEL_BAD_COUNT, lowest number first, nothing
- * at all changes and the byte is lost; the record comes back with its mode and place as they are read (see above). */
+ * at all changes and the byte is lost; the record comes back with its mode and place as they are read (see above).
+ *
+ * The bytes of EDAC that the ICD's prose calls read-only, as SPEED's, keep their value whatever comes on the line: WRITE FILE
+ * and WRITE EDAC over them are WHEEL_ACKED, store the other bytes, and reply with what EDAC then holds. The caller itself
+ * may set any byte of EDAC between two calls. */
 struct wheel_stepped wheel_step(struct wheel_unit unit, uint8_t byte, uint8_t *edac, size_t edac_len, uint8_t *fram,
                                 size_t fram_len, uint16_t *sums, size_t sums_len, uint32_t *diagnostics,
                                 size_t diagnostics_len, uint8_t *message, size_t message_len, uint8_t *reply,

@@ -1,4 +1,5 @@
-/* The C face, linked and called as firmware does it: some vectors of 01, and the joining of every cut of a text. */
+/* The C face, linked and called as firmware does it: some vectors of 01, the joining of every cut of a text, and a unit on which
+   the line writes SPEED in vain. */
 #include "wheel.h"
 
 #include <stdio.h>
@@ -9,6 +10,31 @@ static void same(const char *name, unsigned long came, unsigned long due) {
     if (came != due) {
         printf("BAD %s: %lx, not %lx\n", name, came, due);
         bad = 1;
+    }
+}
+
+/* 02, T-02: INIT to application mode, then WRITE FILE 15 01 02 03 04, to a wheel whose SPEED is 100.0. */
+static void speed_is_read_only(void) {
+    static const uint8_t line[] = {0xC0, 0x41, 0x11, 0x81, 0x00, 0x00, 0x05, 0x20, 0x6C, 0xB3, 0xC0,
+                                   0x41, 0x11, 0x88, 0x15, 0x01, 0x02, 0x03, 0x04, 0x7F, 0xC1, 0xC0};
+    static const uint8_t speed[4] = {0x00, 0x00, 0xC8, 0x42};
+    static uint8_t edac[WHEEL_EDAC], fram[WHEEL_FRAM_LEAST], message[WHEEL_MESSAGE], reply[WHEEL_REPLY];
+    static uint16_t sums[1];
+    static uint32_t diagnostics[WHEEL_DIAGNOSTICS];
+    struct wheel_stepped now = wheel_set_up(0x41, edac, WHEEL_EDAC, fram, WHEEL_FRAM_LEAST, sums, 1, diagnostics,
+                                            WHEEL_DIAGNOSTICS, message, WHEEL_MESSAGE, reply, WHEEL_REPLY);
+    for (size_t i = 0; i < 4; i++) {
+        edac[0x54 + i] = speed[i];
+    }
+    for (size_t i = 0; i < sizeof line; i++) {
+        now = wheel_step(now.unit, line[i], edac, WHEEL_EDAC, fram, WHEEL_FRAM_LEAST, sums, 1, diagnostics,
+                         WHEEL_DIAGNOSTICS, message, WHEEL_MESSAGE, reply, WHEEL_REPLY);
+    }
+    same("SPEED written", now.answer, WHEEL_ACKED);
+    same("SPEED's file", reply[4], 0x15);
+    for (size_t i = 0; i < 4; i++) {
+        same("SPEED held", edac[0x54 + i], speed[i]);
+        same("SPEED shown", reply[5 + i], speed[i]);
     }
 }
 
@@ -34,6 +60,7 @@ int main(void) {
     same("refused answer", refused.answer, WHEEL_TOO_LONG);
     same("refused sum", refused.part.sum, 0);
     same("refused length", refused.part.len, 0);
+    speed_is_read_only();
     puts(bad ? "the C face: BAD" : "the C face: ok");
     return bad;
 }

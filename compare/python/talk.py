@@ -1,5 +1,6 @@
 """talk.py PROGRAM WORDS..: puts the wheel on a pseudo terminal by socat and speaks to it as to a serial port: a ping, a
-POKE across a block edge, a PEEK of it, and the CRC of a range, which is worked out here bit by bit."""
+POKE across a block edge, a PEEK of it, the CRC of a range, which is worked out here bit by bit, and writes over read-only bytes of
+EDAC memory."""
 
 import os
 import shlex
@@ -12,8 +13,10 @@ import serial
 
 FEND, FESC, TFEND, TFESC = 0xC0, 0xDB, 0xDC, 0xDD
 WHEEL, HOST = 0x41, 0x11
-PING, PEEK, POKE, CRC = 0x00, 0x02, 0x03, 0x06
+PING, INIT, PEEK, POKE, CRC = 0x00, 0x01, 0x02, 0x03, 0x06
+READ_FILE, WRITE_FILE, READ_EDAC, WRITE_EDAC = 0x07, 0x08, 0x09, 0x0A
 FRAM = 0x20040000
+APPLICATION = 0x20050000
 
 
 def crc(text):
@@ -67,6 +70,13 @@ def talk(port):
     for first, last in [(0x0000, 0xFFFF), (0x01FF, 0x0200), (0x0103, 0x0BCD), (0x0200, 0x02FF), (0x0210, 0x0210)]:
         asked = little(FRAM + first, 4) + little(FRAM + last, 4)
         assert ask(port, CRC, asked) == asked + little(crc(fram[first : last + 1]), 2), hex(first)
+    # SPEED, file 0x15, keeps its zeros; INERTIA, 0x28, in the same list is stored. Of five bytes from 0x5D5 on FLAGS_ACTIVE is kept.
+    ask(port, INIT, little(APPLICATION, 4))
+    shown = bytes.fromhex("15 00000000 28 05060708")
+    assert ask(port, WRITE_FILE, bytes.fromhex("15 01020304 28 05060708")) == shown
+    assert ask(port, READ_FILE, bytes.fromhex("15 28")) == shown
+    assert ask(port, WRITE_EDAC, bytes.fromhex("D505 0102030405")) == bytes.fromhex("D505 0102000405")
+    assert ask(port, READ_EDAC, bytes.fromhex("D405 07")) == bytes.fromhex("D405 00010200040500")
 
 
 with tempfile.TemporaryDirectory() as folder:
@@ -82,4 +92,4 @@ with tempfile.TemporaryDirectory() as folder:
     finally:
         socat.terminate()
         socat.wait()
-print("a ping, a POKE across block edges, a PEEK and five CRCs over a pseudo terminal: ok")
+print("a ping, a POKE across block edges, a PEEK, five CRCs and writes over read-only bytes over a pseudo terminal: ok")
