@@ -108,9 +108,10 @@ struct wheel_stepped wheel_set_up(uint8_t address, const uint8_t *edac, size_t e
  * all of it where nothing is sent, are as they were. With WHEEL_BAD_ADDRESS to WHEEL_BAD_COUNT, lowest number first, nothing
  * at all changes and the byte is lost; the record comes back with its mode and place as they are read (see above).
  *
- * The bytes of EDAC that the ICD's prose calls read-only, as SPEED's, keep their value whatever comes on the line: WRITE FILE
- * and WRITE EDAC over them are WHEEL_ACKED, store the other bytes, and reply with what EDAC then holds. The caller itself
- * may set any byte of EDAC between two calls. */
+ * The bytes of EDAC that the ICD's prose calls read-only, as SPEED's, keep their value whatever comes on the line. That a byte
+ * is read-only is no reason to refuse: WRITE FILE and WRITE EDAC over such bytes are done like any other, with WHEEL_ACKED, or
+ * with WHEEL_DONE_SILENT where poll is clear; they store the other bytes, and reply with what EDAC then holds. The caller
+ * itself may set any byte of EDAC between two calls. */
 struct wheel_stepped wheel_step(struct wheel_unit unit, uint8_t byte, uint8_t *edac, size_t edac_len, uint8_t *fram,
                                 size_t fram_len, uint16_t *sums, size_t sums_len, uint32_t *diagnostics,
                                 size_t diagnostics_len, uint8_t *message, size_t message_len, uint8_t *reply,

@@ -241,14 +241,6 @@ module _ (u : Unit) (message : List ℕ) (source control address : ℕ) (bytes :
       ∙ ap (λ l. bytes16 address ++ l) (edac.what-memory-then-holds longestData (c .lent .edac) address bytes (wrote .reply) left whole (wrote .is))
       ∙ ap (λ (a : ℕ). bytes16 address ++ keeping a (stretch a (length bytes) (c .lent .edac)) bytes) (two-bytes address small)
 
-  -- The WRITE EDAC itself answers so.
-  pub a-WRITE-EDAC-answers-what-memory-holds : address < 65536 → (reply : List ℕ) (after : Held) → cameTo u c control field ≡ done reply after
-      → reply ≡ bytes16 address ++ now-there
-  unfolding wrote-so
-  a-WRITE-EDAC-answers-what-memory-holds small reply after came =
-      let known = a-command-answered-so-was-done u message source control field calls c sends was-done in
-      replies-alike (sym came ∙ known .is) ∙ answered-with small
-
   -- A READ EDAC of the same range is done, and shows it; a GATHER of it too, of up to 1,024 bytes.
   pub what-was-written-is-read : address < 65536 → (control′ : ℕ) → codeOf control′ ≡ 0x09
       → cameTo v d control′ (bytes16 address ++ bytes16 (length bytes)) ≡ done (bytes16 address ++ now-there) (heldOf v (d .lent))

@@ -7,7 +7,7 @@ use Rattle.unit.specs.Steps.{setUpOf, stepOf}
 use Rattle.demands.specs.Calls.{Call}
 
 -- A call of `set_up` for an address, or of `step` on a unit. All that it names may be anything, of any length, and another thing at each
--- call, the unit too: a call that is refused is a call. Only in place of the EDAC memory that it names it is lent the one spoken of.
+-- call, the unit too: a call that is refused is a call. Only EDAC memory is not the one that it names: it is lent the one spoken of.
 pub data LineCall : Type 0 where
   setting-up : ℕ → World → LineCall
   stepping : Unit → Call → LineCall

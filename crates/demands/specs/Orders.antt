@@ -1,6 +1,7 @@
 -- A command that is sent to a unit, and what it comes to: 01, "The line", "The message" and "Commands". Assumes nothing.
 use Prim.Native.Nat.{ℕ, _≤_}
 use mathlib.Core.Path.{_≡_}
+use mathlib.Core.Bool.{cond}
 use mathlib.Core.List.{List, _∷_, _++_}
 use lib.ListN.{length, take, drop}
 use Rattle.line.specs.Framing.{fend}
@@ -12,7 +13,7 @@ use Rattle.command.specs.Command.{commandOf}
 use Rattle.answer.specs.Answers.{sentOf}
 use Rattle.judging.specs.declared.Unit.{Unit}
 use Rattle.judging.specs.Fitting.{largestCount}
-use Rattle.replying.specs.Replies.{codeOf, sealed}
+use Rattle.replying.specs.Replies.{codeOf, polls, sealed}
 use Rattle.unit.specs.World.{World, world, Outcome, heldOf}
 use Rattle.unit.specs.Steps.{firstOfFram}
 use Rattle.demands.specs.Calls.{Call, lentTo, fedOf, bytesOf, Suits, AllSuit, Idle, Bytes}
@@ -40,6 +41,10 @@ leftBy u message calls c = fedOf u message calls c .last
 
 abbrev pub sentBy : Outcome → List ℕ
 sentBy o = take (sentOf (o .answer)) (o .world .reply)
+
+-- The answer to a command that is done: 1 with poll set, 2 with poll clear.
+abbrev pub doneAnswer : ℕ → ℕ
+doneAnswer control = cond (polls control) 1 2
 
 -- What a command comes to on what a call lends.
 abbrev pub cameTo : Unit → Call → ℕ → List ℕ → Ending Held

@@ -69,6 +69,10 @@ initAnswers = replicate 10 0 ++ (1 ∷ [])
 abbrev pub modeAndValue : List ℕ
 modeAndValue = set (0x00 ∷ 0x00 ∷ 0x80 ∷ 0x3F ∷ replicate 1532 0) 0x5C3 0x03
 
+-- EDAC memory with 100.0 in SPEED.
+abbrev pub withSpeed : List ℕ
+withSpeed = stored zeros 0x054 (0x00 ∷ 0x00 ∷ 0xC8 ∷ 0x42 ∷ [])
+
 pub record WorkedExamples : Type 0 where
   pub P1 : sumOf [] ≡ 0xFFFF
   pub P2 : sumOf (0xFF ∷ []) ≡ 0x00FF
@@ -112,9 +116,15 @@ pub record WorkedExamples : Type 0 where
       (initAnswers ++ replicate 13 0 ++ (3 ∷ []))
       (initReply ++ (0xC0 ∷ 0x11 ∷ 0x41 ∷ 0x88 ∷ 0x28 ∷ 0x01 ∷ 0x02 ∷ 0x03 ∷ 0x04 ∷ 0x29 ∷ 0x05 ∷ 0xD4 ∷ 0x65 ∷ 0xC0 ∷ []))
       noCounts zeros
-  -- 02, T-02: SPEED, file 0x15, is written 01 02 03 04. Answer 1, the reply shows the 00 00 00 00 that it holds, and nothing is stored.
-  pub T02 : Shows zeros
+  -- 02, T-02: SPEED holds 100.0. WRITE FILE 15 01 02 03 04: answer 1, the reply shows SPEED as it is, and nothing is stored. WRITE EDAC
+  -- 52 00 AA BB CC DD: answer 1, the two bytes before SPEED are stored, and the reply shows those and SPEED's first two.
+  pub T02 : Shows withSpeed
       (init ++ (0xC0 ∷ 0x41 ∷ 0x11 ∷ 0x88 ∷ 0x15 ∷ 0x01 ∷ 0x02 ∷ 0x03 ∷ 0x04 ∷ 0x7F ∷ 0xC1 ∷ 0xC0 ∷ []))
       (initAnswers ++ replicate 11 0 ++ (1 ∷ []))
-      (initReply ++ (0xC0 ∷ 0x11 ∷ 0x41 ∷ 0xA8 ∷ 0x15 ∷ 0x00 ∷ 0x00 ∷ 0x00 ∷ 0x00 ∷ 0x16 ∷ 0xCD ∷ 0xC0 ∷ []))
-      noCounts zeros
+      (initReply ++ (0xC0 ∷ 0x11 ∷ 0x41 ∷ 0xA8 ∷ 0x15 ∷ 0x00 ∷ 0x00 ∷ 0xC8 ∷ 0x42 ∷ 0x6A ∷ 0xA8 ∷ 0xC0 ∷ []))
+      noCounts withSpeed
+      × Shows withSpeed
+      (init ++ (0xC0 ∷ 0x41 ∷ 0x11 ∷ 0x8A ∷ 0x52 ∷ 0x00 ∷ 0xAA ∷ 0xBB ∷ 0xCC ∷ 0xDD ∷ 0x29 ∷ 0xAB ∷ 0xC0 ∷ []))
+      (initAnswers ++ replicate 12 0 ++ (1 ∷ []))
+      (initReply ++ (0xC0 ∷ 0x11 ∷ 0x41 ∷ 0xAA ∷ 0x52 ∷ 0x00 ∷ 0xAA ∷ 0xBB ∷ 0x00 ∷ 0x00 ∷ 0xB6 ∷ 0x81 ∷ 0xC0 ∷ []))
+      noCounts (stored withSpeed 0x052 (0xAA ∷ 0xBB ∷ []))

@@ -14,6 +14,7 @@ use Rattle.read_only.specs.ReadOnly.{readOnly, keeping, written, writtenOver}
 use Rattle.memory.specs.Edac.{edacSize, insideEdac}
 use Rattle.memory.proofs.Stretches.{length-of-a-stretch}
 use Rattle.memory.proofs.Overlays.{a-range-before-a-store, a-range-after-a-store}
+use Rattle.read_only.proofs.Runs.{both}
 use Rattle.read_only.proofs.Keeping.{kept-alike, kept-as-it-was, stretch-of-a-write, what-is-read-after-a-write}
 use Rattle.field.specs.Fields.{word16At, bytes16, shortCount}
 use Rattle.field.specs.Reading.{Listed, ends, cut, item, listedFrom}
@@ -25,7 +26,7 @@ use Rattle.edac_commands.specs.ReadEdac.{readEdacRangeOf, readEdacOf}
 use Rattle.edac_commands.specs.WriteEdac.{writtenEdac, writeEdacOf}
 use Rattle.edac_commands.specs.Gather.{ranges, rangeHolds, rangesHold, rangesWidth, rangesShown, gatherOf}
 use Rattle.edac_commands.specs.Storing.{edacAfter, rangesAfter}
-use Rattle.edac_commands.proofs.Ways.{edac-read-inside, edac-read-long, both}
+use Rattle.edac_commands.proofs.Ways.{edac-read-inside, edac-read-long}
 
 -- what is known of a WRITE EDAC that was done
 pub record EdacWritten (room : ℕ) (edac field reply after : List ℕ) : Type 0 where

@@ -1,6 +1,6 @@
 -- One law for each way through a command's function. Assumes nothing.
 use mathlib.Core.Path.{_≡_, refl, sym, ap, _∙_}
-use mathlib.Core.Bool.{Bool, true, false, cond, _&&_, false≢true}
+use mathlib.Core.Bool.{Bool, true, false, cond, _&&_}
 use mathlib.Core.List.{List, _++_}
 use Prim.Native.Nat.{ℕ, _+_, _-_, _≤_, _<_}
 use native.Mathlib.Omega.{arith}
@@ -10,6 +10,7 @@ use lib.ListN.{length, take, drop, getD, length-drop}
 use Rattle.memory.specs.Bytes.{stretch, stored, begun}
 use Rattle.read_only.specs.ReadOnly.{written}
 use Rattle.read_only.proofs.Keeping.{a-write-keeps-read-only-bytes}
+use Rattle.read_only.proofs.Runs.{both}
 use Rattle.memory.specs.Edac.{edacSize, insideEdac}
 use Rattle.carrying.specs.declared.Ended.the-variants.{Done, Refused}
 use Rattle.carrying.specs.Ending.{done, refused, left, leaves}
@@ -102,10 +103,6 @@ either-fails room width false x y lacks = cond-same (ltb room width) y
     cond-same : {A : Type 0} (b : Bool) (x : A) → cond b x x ≡ x
     cond-same true x = refl
     cond-same false x = refl
-
-pub both : (a b : Bool) → (a && b) ≡ true → (a ≡ true) × (b ≡ true)
-both true b e = (refl, e)
-both false b e = absurd (false≢true e)
 
 module _ (room : ℕ) (edac field reply : List ℕ) (at : ℕ) where
   pub no-ranges : length field ≤ at → left Refused reply tt ≡ leaves (gatherOf room edac (drop at field)) reply tt

@@ -11,11 +11,11 @@ use lib.ListN.{length, drop, getD}
 use Rattle.memory.specs.Bytes.{stretch}
 use Rattle.read_only.specs.ReadOnly.{KeepsReadOnly}
 use Rattle.memory.specs.Edac.{edacSize, bodySize, shownSize, fileShown}
-use Rattle.read_only.specs.Files.{fileStored, fileReadOnly}
+use Rattle.read_only.specs.Files.{fileStored, fileReadOnly, ofFile}
 use Rattle.memory.proofs.Stretches.{length-of-a-stretch}
 use Rattle.memory.proofs.Tests.{either-side}
 use Rattle.read_only.proofs.Keeping.{kept-at-first, also-kept}
-use Rattle.read_only.proofs.Files.{a-stored-file-keeps-read-only-bytes, an-address-and-a-body, a-file-after-a-store}
+use Rattle.read_only.proofs.Files.{a-stored-file-keeps-read-only-bytes, neither, a-byte-of-another-file-stays, an-address-and-a-body, a-file-after-a-store}
 use Rattle.field.specs.Reading.{Listed, ends, cut, item, isWhole}
 use Rattle.field.proofs.Lists.{by-structures, list-ends}
 use Rattle.carrying.specs.Ending.{done, refused}
@@ -23,7 +23,7 @@ use Rattle.carrying.specs.Storing.{withData}
 use Rattle.carrying.proofs.Storing.{either-way-alike}
 use Rattle.file_commands.specs.ReadFile.{filesShown, filesWidth, readFileOf}
 use Rattle.file_commands.specs.WriteFile.{listed, filesOf, filesStored, writeFileOf}
-use Rattle.file_commands.specs.Storing.{lastBody, filesAfter}
+use Rattle.file_commands.specs.Storing.{lastBody, filesAfter, ofFiles}
 use Rattle.file_commands.proofs.Lists.{at-least-one, listed-turn}
 use Rattle.file_commands.proofs.Room.{listed-width}
 
@@ -117,6 +117,29 @@ module _ (field : List ℕ) (bytes : (i : ℕ) → getD field i 0 < 256) where
 
   pub each-file-after : isWhole (listed field) ≡ true → Shows 0
   each-file-after whole = by-structures shownSize at-least-one field Shows shows-at-the-end shows-one-more 0 whole
+
+  -- ---- and every byte that is of none of them stays
+
+  abbrev Stays : ℕ → Type 0
+  Stays at = (edac : List ℕ) (n : ℕ) → ofFiles (listed (drop at field)) n ≡ false → getD (filesStored edac (listed (drop at field))) n 0 ≡ getD edac n 0
+
+  stays-at-the-end : (at : ℕ) → length field ≤ at → Stays at
+  stays-at-the-end at past edac n none = ap (λ l. getD (filesStored edac l) n 0) (list-ends shownSize field at past)
+
+  stays-one-more : (at : ℕ) → at < length field → at + shownSize (getD field at 0) ≤ length field → Stays (at + shownSize (getD field at 0)) → Stays at
+  stays-one-more at inside fits others edac n none =
+      let named = getD field at 0 in
+      let rest = listed (drop (at + shownSize named) field) in
+      let body = stretch (at + 1) (bodySize named) field in
+      let long : length body ≡ bodySize named = length-of-a-stretch field (at + 1) (bodySize named) (omega arith) in
+      let turn = listed-turn field at inside fits in
+      let two = neither (ofFile named n) (ofFiles rest n) (sym (ap (λ l. ofFiles l n) turn) ∙ none) in
+      ap (λ l. getD (filesStored edac l) n 0) turn
+      ∙ others (fileStored edac named body) n (two .1)
+      ∙ a-byte-of-another-file-stays edac named body n long (two .0)
+
+  pub a-byte-of-no-file-stays : isWhole (listed field) ≡ true → Stays 0
+  a-byte-of-no-file-stays whole = by-structures shownSize at-least-one field Stays stays-at-the-end stays-one-more 0 whole
 
 module _ (room : ℕ) (edac field reply after : List ℕ) (size : length edac ≡ edacSize) (bytes : (i : ℕ) → getD field i 0 < 256)
     (came : writeFileOf room edac field ≡ done reply after) where

@@ -1,4 +1,4 @@
-// Copies between lent buffers.
+// Copies between lent buffers, and the lesser of two numbers, as far as a part of one reaches.
 ghost use mathlib.Core.Path.{_≡_};
 ghost use Prim.Native.Nat.{_+_, _≤_, min};
 ghost use lib.ListN.{length};

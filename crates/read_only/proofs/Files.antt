@@ -1,12 +1,13 @@
 -- Files of EDAC memory: which are read-only, and what writing one leaves, and shows. Assumes nothing.
 use mathlib.Core.Path.{_≡_, refl, sym, ap, ap₂, _∙_}
-use mathlib.Core.Bool.{Bool, true, false, cond, _&&_, false≢true}
+use mathlib.Core.Bool.{Bool, true, false, cond, _&&_, _||_, false≢true}
 use mathlib.Core.List.{List, [], _∷_}
+use mathlib.Core.Logic.{inl, inr}
 use Prim.Native.Nat.{ℕ, zero, suc, _+_, _-_, _≤_, _<_}
 use native.Mathlib.Nat.{not-suc-le-zero}
 use native.Mathlib.Omega.{arith}
-use borrow.Author.Tests.{ne-eqb, eqb-true, eqb-false}
-use lib.Dec.{eqb}
+use borrow.Author.Tests.{ne-eqb, eqb-true, eqb-false, ltb-false, le-leb}
+use lib.Dec.{leb, ltb, eqb}
 use lib.ListN.{length, take, drop, set, getD, length-set, length-drop}
 use lib.Seq.{length-take-le, take-all, getD-set-same}
 use Rattle.memory.specs.Bytes.{stretch, stored}
@@ -15,8 +16,8 @@ use Rattle.memory.proofs.Stretches.{a-byte-stored, stretch-before-a-store, stre
 use Rattle.memory.proofs.Overlays.{a-byte-past-a-store}
 use Rattle.memory.proofs.Tests.{either-side}
 use Rattle.read_only.specs.ReadOnly.{readOnly, written, KeepsReadOnly}
-use Rattle.read_only.specs.Files.{fileStored, fileReadOnly}
-use Rattle.read_only.proofs.Keeping.{also-kept, a-write-keeps-read-only-bytes, a-write-of-writable-bytes, a-write-of-read-only-bytes}
+use Rattle.read_only.specs.Files.{fileStored, fileReadOnly, ofFile}
+use Rattle.read_only.proofs.Keeping.{also-kept, a-write-keeps-read-only-bytes, a-byte-outside-a-write-stays, a-write-of-writable-bytes, a-write-of-read-only-bytes}
 use Rattle.read_only.proofs.Runs.{both, allSo, all-so}
 
 -- ---- which files are read-only
@@ -106,6 +107,33 @@ unfolding fileStored
 a-stored-file-keeps-read-only-bytes edac zero body =
     also-kept (a-write-keeps-read-only-bytes edac modePlace (take 1 body)) (a-write-keeps-read-only-bytes (written edac modePlace (take 1 body)) 0 (drop 1 body))
 a-stored-file-keeps-read-only-bytes edac (suc n) body = a-write-keeps-read-only-bytes edac (byteAddress (suc n)) body
+
+pub neither : (a b : Bool) → (a || b) ≡ false → (a ≡ false) × (b ≡ false)
+neither false b e = (refl, e)
+neither true b e = absurd (false≢true (sym e))
+
+-- A byte that is not of the file stays.
+pub a-byte-of-another-file-stays : (edac : List ℕ) (file : ℕ) (body : List ℕ) (n : ℕ) → length body ≡ bodySize file → ofFile file n ≡ false
+    → getD (fileStored edac file body) n 0 ≡ getD edac n 0
+unfolding fileStored bodySize
+a-byte-of-another-file-stays edac zero body n five not =
+    let four = length-drop 1 body in
+    let one = length-take-le 1 body (omega arith) in
+    let two = neither (ltb n 4) (eqb n modePlace) not in
+    let past = ltb-false n 4 (two .0) in
+    let other = eqb-false n modePlace (two .1) in
+    a-byte-outside-a-write-stays (written edac modePlace (take 1 body)) 0 (drop 1 body) n (inr (omega arith))
+    ∙ a-byte-outside-a-write-stays edac modePlace (take 1 body) n
+    (either-side (suc n) modePlace (λ before. inl before)
+    (λ there. inr (either-side (suc modePlace) n (λ behind. omega arith) (λ here. absurd (other (omega arith))))))
+a-byte-of-another-file-stays edac (suc m) body n four not =
+    a-byte-outside-a-write-stays edac (byteAddress (suc m)) body n
+    (either-side (byteAddress (suc m)) n
+    (λ there. inr (behind (simp (le-leb (byteAddress (suc m)) n there) at not)))
+    (λ before. inl before))
+  where
+    behind : ltb n (byteAddress (suc m) + 4) ≡ false → byteAddress (suc m) + length body ≤ n
+    behind e = let past = ltb-false n (byteAddress (suc m) + 4) e in omega arith
 
 -- ---- a file shown after one was stored
 

@@ -113,6 +113,10 @@ a-stretch-kept k count from old new = ap (take count) (rest-kept k from old new)
 
 -- ---- a store in EDAC memory
 
+no-bytes : (l : List ℕ) → length l ≡ 0 → l ≡ []
+no-bytes [] e = refl
+no-bytes (x ∷ l) e = absurd (omega arith)
+
 -- storing what stands there changes nothing
 pub what-stands-there-is-stored : (held : List ℕ) (at count : ℕ) → at + count ≤ length held → stored held at (stretch at count held) ≡ held
 unfolding stored
@@ -145,14 +149,10 @@ module _ (edac : List ℕ) (at : ℕ) (bytes : List ℕ) where
         same-bytes = λ n so. a-byte-after-a-store edac at new fits n ∙ here n so;
       })
       (λ outside.
-      let none : new ≡ [] = of-no-bytes new (omega arith) in
+      let none : new ≡ [] = no-bytes new (omega arith) in
       let same : stored edac at new ≡ edac = ap (stored edac at) none ∙ nothing-stored edac at in
       record { same-length = ap length same; same-bytes = λ n so. ap (λ l. getD l n 0) same })
     where
-      of-no-bytes : (l : List ℕ) → length l ≡ 0 → l ≡ []
-      of-no-bytes [] e = refl
-      of-no-bytes (x ∷ l) e = absurd (omega arith)
-
       -- a read-only byte among those that are stored is stored as it stood
       there : (n : ℕ) → readOnly n ≡ true → at ≤ n → n < at + length new → getD new (n - at) 0 ≡ getD edac n 0
       there n so low high =
@@ -171,6 +171,22 @@ module _ (edac : List ℕ) (at : ℕ) (bytes : List ℕ) where
           apart true true ea eb = there n so (leb-true at n ea) (ltb-true n (at + length new) eb)
           apart true false ea eb = refl
           apart false b ea eb = refl
+
+  -- And so does every byte that was not sent.
+  pub a-byte-outside-a-write-stays : (n : ℕ) → (n < at) ⊎ (at + length bytes ≤ n) → getD (written edac at bytes) n 0 ≡ getD edac n 0
+  unfolding written
+  a-byte-outside-a-write-stays n apart =
+      let rest = length-drop at edac in
+      let size = length-take (length bytes) (drop at edac) in
+      let many = as-many in
+      either-side at (length edac)
+      (λ inside. a-byte-after-a-store edac at new (omega arith) n ∙ outside (omega arith) apart)
+      (λ past. ap (λ l. getD l n 0) (ap (stored edac at) (no-bytes new (omega arith)) ∙ nothing-stored edac at))
+    where
+      outside : length new ≤ length bytes → (n < at) ⊎ (at + length bytes ≤ n)
+          → cond (leb at n && ltb n (at + length new)) (getD new (n - at) 0) (getD edac n 0) ≡ getD edac n 0
+      outside few (inl before) = simp (lt-leb at n before)
+      outside few (inr past) = simp (le-leb at n (omega arith), le-ltb n (at + length new) (omega arith))
 
   module _ (fits : at + length bytes ≤ length edac) where
     exactly : length old ≡ length bytes
@@ -204,24 +220,13 @@ module _ (edac : List ℕ) (at : ℕ) (bytes : List ℕ) where
         ∙ a-byte-after-a-store edac at bytes fits n
         ∙ simp (le-leb at n low, lt-ltb n (at + length bytes) high)
 
-    elsewhere : (n : ℕ) → (n < at) ⊎ (at + length bytes ≤ n) → getD (written edac at bytes) n 0 ≡ getD edac n 0
-    unfolding written
-    elsewhere n apart =
-        let many : length new ≡ length bytes = as-many ∙ exactly in
-        a-byte-after-a-store edac at new (omega arith) n ∙ outside many apart
-      where
-        outside : length new ≡ length bytes → (n < at) ⊎ (at + length bytes ≤ n)
-            → cond (leb at n && ltb n (at + length new)) (getD new (n - at) 0) (getD edac n 0) ≡ getD edac n 0
-        outside many (inl before) = simp (lt-leb at n before)
-        outside many (inr past) = simp (le-leb at n (omega arith), le-ltb n (at + length new) (omega arith))
-
     pub a-write-address-by-address : Writes edac at bytes (written edac at bytes)
     a-write-address-by-address =
         let kept = a-write-keeps-read-only-bytes in record {
           same-length = kept .same-length;
           a-read-only-byte-stays = kept .same-bytes;
           a-writable-byte-is-stored = writable-there;
-          any-other-byte-stays = elsewhere;
+          any-other-byte-stays = a-byte-outside-a-write-stays;
         }
 
     pub stretch-of-a-write : stretch at (length bytes) (written edac at bytes) ≡ new

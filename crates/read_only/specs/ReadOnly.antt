@@ -9,7 +9,7 @@ use lib.Dec.{leb}
 use lib.ListN.{length, getD}
 use Rattle.memory.specs.Bytes.{stretch, stored, overlaid}
 
--- The bytes of a row of Table 18, from its first address to its last.
+-- Whether an address is one of a row of Table 18, its first and last included.
 abbrev pub row : ℕ → ℕ → ℕ → Bool
 row first last at = leb first at && leb at last
 
@@ -73,8 +73,8 @@ written edac at bytes = stored edac at (keeping at (stretch at (length bytes) ed
 abbrev pub writtenOver : ℕ → List ℕ → ℕ → List ℕ → List ℕ
 writtenOver at bytes from old = keeping from old (overlaid at bytes from old)
 
--- The same said address by address, without a word of how it is worked out: what EDAC memory is before and after a command wrote `bytes`
--- from `at` on.
+-- The same, of bytes that fit, said address by address, without a word of how it is worked out: EDAC memory before and after a command
+-- wrote `bytes` from `at` on.
 pub record Writes (before : List ℕ) (at : ℕ) (bytes after : List ℕ) : Type 0 where
   pub same-length : length after ≡ length before
   pub a-read-only-byte-stays : (n : ℕ) → readOnly n ≡ true → getD after n 0 ≡ getD before n 0

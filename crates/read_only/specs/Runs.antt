@@ -14,6 +14,7 @@ standsTo so from (suc left) = cond (Bool·beq so (readOnly from)) (standsTo so (
 abbrev pub run : Bool → ℕ → Run
 run so end = record { «read_only» = so; end = end }
 
--- Of an address in EDAC memory: whether its byte is read-only, and the next address of which that is not as true, or the end of memory.
+-- Of an address in EDAC memory: whether its byte is read-only, and the first address behind it whose byte is not as it is, or the end of
+-- memory.
 unfoldable pub runOf : ℕ → Run
 runOf at = run (readOnly at) (standsTo (readOnly at) at (edacSize - at))

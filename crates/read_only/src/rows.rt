@@ -13,7 +13,7 @@ pub struct Run {
 }
 
 // Of an address below `end`: from `first` on bytes are read-only, and before it they are not.
-fn below(at: usize, first: usize, end: usize) -> Run
+fn writable_then_kept(at: usize, first: usize, end: usize) -> Run
     ensures { λ r. ⌜ r ≡ cond (ltb at first) (run false first) (run true end) ⌝ }
 {
     if at < first {
@@ -35,35 +35,35 @@ fn first_page(at: usize) -> Run
 {
     // VBUS
     if at < 0x010 {
-        return below(at, 0x00c, 0x010);
+        return writable_then_kept(at, 0x00c, 0x010);
     }
     // VCC
     if at < 0x024 {
-        return below(at, 0x020, 0x024);
+        return writable_then_kept(at, 0x020, 0x024);
     }
     // TEMP0
     if at < 0x044 {
-        return below(at, 0x040, 0x044);
+        return writable_then_kept(at, 0x040, 0x044);
     }
     // TEMP2, TEMP3
     if at < 0x050 {
-        return below(at, 0x048, 0x050);
+        return writable_then_kept(at, 0x048, 0x050);
     }
     // SPEED, MOMENTUM
     if at < 0x05c {
-        return below(at, 0x054, 0x05c);
+        return writable_then_kept(at, 0x054, 0x05c);
     }
     // HALL_DIGITAL
     if at < 0x070 {
-        return below(at, 0x06c, 0x070);
+        return writable_then_kept(at, 0x06c, 0x070);
     }
     // ADC_CALIBRATE
     if at < 0x078 {
-        return below(at, 0x074, 0x078);
+        return writable_then_kept(at, 0x074, 0x078);
     }
     // SPEED_P_GAIN, SPEED_I_GAIN, SPEED_D_GAIN
     if at < 0x08c {
-        return below(at, 0x080, 0x08c);
+        return writable_then_kept(at, 0x080, 0x08c);
     }
     Run {
         read_only: false,
@@ -78,31 +78,31 @@ fn second_page(at: usize) -> Run
 {
     // PREVIOUS_SPEED
     if at < 0x104 {
-        return below(at, 0x100, 0x104);
+        return writable_then_kept(at, 0x100, 0x104);
     }
     // SPEED_LAST_ERROR
     if at < 0x10c {
-        return below(at, 0x108, 0x10c);
+        return writable_then_kept(at, 0x108, 0x10c);
     }
     // TORQUE_T0 to TORQUE_T4
     if at < 0x140 {
-        return below(at, 0x12c, 0x140);
+        return writable_then_kept(at, 0x12c, 0x140);
     }
     // SLEEP_DUTY, DCDC_FREQ
     if at < 0x170 {
-        return below(at, 0x168, 0x170);
+        return writable_then_kept(at, 0x168, 0x170);
     }
     // RESPONSE_AMPLITUDE, RESPONSE_PHASE
     if at < 0x18c {
-        return below(at, 0x184, 0x18c);
+        return writable_then_kept(at, 0x184, 0x18c);
     }
     // KT_ESTIMATE, R_ESTIMATE
     if at < 0x198 {
-        return below(at, 0x190, 0x198);
+        return writable_then_kept(at, 0x190, 0x198);
     }
     // the three friction estimates, RUNDOWN_TIME
     if at < 0x1ac {
-        return below(at, 0x19c, 0x1ac);
+        return writable_then_kept(at, 0x19c, 0x1ac);
     }
     Run {
         read_only: false,
@@ -117,11 +117,11 @@ fn later_pages(at: usize) -> Run
 {
     // TEMP_R0, TEMP_R2, TEMP_R3, the six ADC_RAW
     if at < 0x224 {
-        return below(at, 0x200, 0x224);
+        return writable_then_kept(at, 0x200, 0x224);
     }
     // FLAGS_ACTIVE
     if at < 0x5d8 {
-        return below(at, 0x5d7, 0x5d8);
+        return writable_then_kept(at, 0x5d7, 0x5d8);
     }
     Run {
         read_only: false,

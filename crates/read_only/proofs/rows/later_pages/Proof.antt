@@ -8,19 +8,19 @@ use Rattle.read_only.proofs.Runs.{in-a-run, in-either}
 use Rattle.read_only.proofs.rows.later_pages.Statement.{statement}
 use Rattle.read_only.proofs.rows.later_pages.Tie as tie
 
-below-requires : tie.Need-below-requires
-below-requires c κs = search needs
+writable-then-kept-requires : tie.Need-writable-then-kept-requires
+writable-then-kept-requires c κs = search needs
 
 returns : tie.Need-returns
 unfolding readOnly
-returns c = c .below .ensures ∙ in-either 0x200 0x200 0x224 refl refl _ (omega arith) (omega arith)
+returns c = c .writable-then-kept .ensures ∙ in-either 0x200 0x200 0x224 refl refl _ (omega arith) (omega arith)
 
-below-requires-2 : tie.Need-below-requires-2
-below-requires-2 c κs = search needs
+writable-then-kept-requires-2 : tie.Need-writable-then-kept-requires-2
+writable-then-kept-requires-2 c κs = search needs
 
 returns-2 : tie.Need-returns-2
 unfolding readOnly
-returns-2 c = c .below2 .ensures ∙ in-either 0x224 0x5D7 0x5D8 refl refl _ (omega arith) (omega arith)
+returns-2 c = c .writable-then-kept2 .ensures ∙ in-either 0x224 0x5D7 0x5D8 refl refl _ (omega arith) (omega arith)
 
 returns-3 : tie.Need-returns-3
 unfolding readOnly
@@ -30,8 +30,8 @@ pub later-pages-spec : {M : Type 1} → statement M
 later-pages-spec =
     tie.close
     (tie.spec
-    below-requires
+    writable-then-kept-requires
     returns
-    below-requires-2
+    writable-then-kept-requires-2
     returns-2
     returns-3)
