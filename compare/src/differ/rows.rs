@@ -1,5 +1,6 @@
 //! How commands met each read-only row (02, T-02), and which files were written: a byte that is kept says nothing where
-//! nobody tried to write it, and one that is stored says nothing where it was there before.
+//! nobody tried to write it, and one that is stored says nothing where it was there before. The rows are the second
+//! program's; that none is missing there, `tests/second/read_only.rs` sees by a list of its own.
 
 use crate::second::read_only::ROWS;
 use std::fmt;

@@ -253,7 +253,7 @@ fn the_neighbours_of_flags_active() {
 
 #[test]
 fn what_the_prose_does_not_call_read_only_is_written() {
-    let silent = [
+    let not_called_read_only = [
         ("Command Value", 0x000, 0x003),
         ("PWM", 0x068, 0x06B),
         ("SINUSOID_PHASE", 0x0EC, 0x0EF),
@@ -276,7 +276,7 @@ fn what_the_prose_does_not_call_read_only_is_written() {
         ("ACCEL_TARGET", 0x10C, 0x10F),
         ("FAULT_OVERCURRENT", 0x1D4, 0x1D7),
     ];
-    for (name, first, last) in silent.into_iter().chain(said) {
+    for (name, first, last) in not_called_read_only.into_iter().chain(said) {
         let mut unit = Bench::application();
         let due: Vec<usize> = (first..=last).collect();
         assert_eq!(written(&mut unit, first, last), due, "{name}");
