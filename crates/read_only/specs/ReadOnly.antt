@@ -69,10 +69,6 @@ keeping from (before ∷ old) (byte ∷ new) = cond (readOnly from) before byte 
 unfoldable pub written : List ℕ → ℕ → List ℕ → List ℕ
 written edac at bytes = stored edac at (keeping at (stretch at (length bytes) edac) bytes)
 
--- What stands from `from` on, where `old` stood, after a command wrote `bytes` in EDAC memory from `at` on.
-abbrev pub writtenOver : ℕ → List ℕ → ℕ → List ℕ → List ℕ
-writtenOver at bytes from old = keeping from old (overlaid at bytes from old)
-
 -- The same, of bytes that fit, said address by address, without a word of how it is worked out: EDAC memory before and after a command
 -- wrote `bytes` from `at` on.
 pub record Writes (before : List ℕ) (at : ℕ) (bytes after : List ℕ) : Type 0 where
@@ -85,3 +81,7 @@ pub record Writes (before : List ℕ) (at : ℕ) (bytes after : List ℕ) : Type
 pub record KeepsReadOnly (before after : List ℕ) : Type 0 where
   pub same-length : length after ≡ length before
   pub same-bytes : (at : ℕ) → readOnly at ≡ true → getD after at 0 ≡ getD before at 0
+
+-- What stands from `from` on, where `old` stood, after a command wrote `bytes` in EDAC memory from `at` on.
+abbrev pub writtenOver : ℕ → List ℕ → ℕ → List ℕ → List ℕ
+writtenOver at bytes from old = keeping from old (overlaid at bytes from old)

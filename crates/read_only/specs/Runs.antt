@@ -6,7 +6,8 @@ use Rattle.read_only.specs.ReadOnly.{readOnly}
 use Rattle.memory.specs.Edac.{edacSize}
 use Rattle.read_only.specs.declared.rows.Run.{Run}
 
--- Of the `left` bytes from `from` on, the address of the first that is not read-only as `so` says, or the address after them.
+-- Of the `left` bytes from `from` on, the address of the first that is not read-only, or, where `so` is false, of the first that is; or the
+-- address after them.
 unfoldable pub standsTo : Bool → ℕ → ℕ → ℕ
 standsTo so from zero = from
 standsTo so from (suc left) = cond (Bool·beq so (readOnly from)) (standsTo so (suc from) left) from

@@ -27,7 +27,7 @@ pub fn store(bytes: &[u8], edac: &mut [u8], at: usize)
     }
 }
 
-// Stores a file's body.
+// Stores a file's body, but leaves a read-only file as it is.
 pub fn store_file(edac: &mut [u8], file: FileAddress, body: &[u8])
     requires { ⌜ (length (now edac) ≡ edacSize) × (length (now body) ≡ bodySize (file .0)) ⌝ }
     ensures { λ _. ⌜ now (edac .exit) ≡ fileStored (now (edac .entry)) (file .0) (now (body .entry)) ⌝ }
