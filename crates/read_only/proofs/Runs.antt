@@ -1,10 +1,9 @@
--- How far bytes stand alike: what the chain of comparisons finds, and what a store needs of it. Assumes nothing.
+-- How far bytes stand alike, and what a store needs of it. Assumes nothing.
 use mathlib.Core.Path.{_≡_, refl, sym, ap, ap₂, _∙_}
-use mathlib.Core.Bool.{Bool, true, false, cond, not, _&&_, _||_, Bool·beq, false≢true}
+use mathlib.Core.Bool.{Bool, true, false, cond, not, _&&_, Bool·beq, false≢true}
 use Prim.Native.Nat.{ℕ, zero, suc, _+_, _-_, _≤_, _<_, min}
 use native.Mathlib.Omega.{arith}
-use borrow.Author.Tests.{lt-ltb, le-ltb, leb-true, eqb-true}
-use lib.Dec.{leb, ltb, eqb}
+use mathlib.Core.Logic.{_⊎_, inl, inr}
 use Rattle.read_only.specs.declared.rows.Run.{Run}
 use Rattle.read_only.specs.ReadOnly.{readOnly}
 use Rattle.memory.specs.Edac.{edacSize}
@@ -80,12 +79,16 @@ all-so so (suc count) from e i low high =
     either-side (suc from) i (λ later. all-so so count (suc from) (two .1) i later (omega arith))
     (λ here. let first : i ≡ from = omega arith in ap readOnly first ∙ same so (readOnly from) (two .0))
 
--- the end of EDAC memory, or a byte that does not stand so
-abbrev stops : Bool → ℕ → Bool
-stops so end = eqb end edacSize || Bool·beq (not so) (readOnly end)
+-- A run of an address, told by what it is, where `says` is how bytes stand up to `end`: it has the address, up to where it stops bytes stand
+-- as it says, and it stops at `end` or before a byte that stands otherwise.
+pub record Stands (says : ℕ → Bool) (end at : ℕ) (r : Run) : Type 0 where
+  pub past : at < r .end
+  pub within : r .end ≤ end
+  pub alike : (i : ℕ) → at ≤ i → i < r .end → says i ≡ r .«read_only»
+  pub stops : (r .end ≡ end) ⊎ (says (r .end) ≡ not (r .«read_only»))
 
 stands-to : (so : Bool) (left from end : ℕ) → from + left ≡ edacSize → from ≤ end → end ≤ edacSize → ((i : ℕ) → from ≤ i → i < end → readOnly i ≡ so)
-    → stops so end ≡ true → standsTo so from left ≡ end
+    → (end ≡ edacSize) ⊎ (readOnly end ≡ not so) → standsTo so from left ≡ end
 unfolding standsTo
 stands-to so zero from end all low high alike stop = omega arith
 stands-to so (suc left) from end all low high alike stop =
@@ -93,40 +96,20 @@ stands-to so (suc left) from end all low high alike stop =
     (λ more.
     ap (λ b. cond b (standsTo so (suc from) left) from) (ap (Bool·beq so) (alike from (omega arith) more) ∙ beq-same so)
     ∙ stands-to so left (suc from) end (omega arith) more high (λ i above below. alike i (omega arith) below) stop)
-    (λ ended.
-    let here : from ≡ end = omega arith in
-    ap (λ b. cond b (standsTo so (suc from) left) from) (ap (λ (n : ℕ). Bool·beq so (readOnly n)) here ∙ ap (Bool·beq so) (other here stop) ∙ beq-other so) ∙ here)
+    (λ ended. let here : from ≡ end = omega arith in there here stop)
   where
-    other : from ≡ end → stops so end ≡ true → readOnly end ≡ not so
-    other here t = apart (eqb end edacSize) refl t
-      where
-        apart : (b : Bool) → eqb end edacSize ≡ b → (b || Bool·beq (not so) (readOnly end)) ≡ true → readOnly end ≡ not so
-        apart true e h = let at-the-end = eqb-true end edacSize e in absurd (omega arith)
-        apart false e h = same (not so) (readOnly end) h
+    there : from ≡ end → (end ≡ edacSize) ⊎ (readOnly end ≡ not so) → cond (Bool·beq so (readOnly from)) (standsTo so (suc from) left) from ≡ end
+    there here (inl e) = absurd (omega arith)
+    there here (inr e) = ap (λ b. cond b (standsTo so (suc from) left) from) (ap (λ (n : ℕ). Bool·beq so (readOnly n)) here ∙ ap (Bool·beq so) e ∙ beq-other so) ∙ here
 
--- A run from `start` up to `end`, by a computed test.
-abbrev pub isRun : Bool → ℕ → ℕ → Bool
-isRun so start end = leb start end && (leb end edacSize && (allSo so start (end - start) && stops so end))
-
-pub in-a-run : (so : Bool) (start end : ℕ) → isRun so start end ≡ true → (at : ℕ) → start ≤ at → at < end → run so end ≡ runOf at
+-- There is one such run.
+pub the-run : (at : ℕ) (r : Run) → Stands readOnly edacSize at r → r ≡ runOf at
 unfolding runOf
-in-a-run so start end e at low high =
-    let one = both (leb start end) (leb end edacSize && (allSo so start (end - start) && stops so end)) e in
-    let two = both (leb end edacSize) (allSo so start (end - start) && stops so end) (one .1) in
-    let three = both (allSo so start (end - start)) (stops so end) (two .1) in
-    let forward = leb-true start end (one .0) in
-    let inside = leb-true end edacSize (two .0) in
-    let alike : (i : ℕ) → start ≤ i → i < end → readOnly i ≡ so = λ i above below. all-so so (end - start) start (three .0) i above (omega arith) in
-    let here = alike at low high in
-    sym (ap₂ run here (ap (λ b. standsTo b at (edacSize - at)) here ∙ stands-to so (edacSize - at) at end (omega arith) (omega arith) inside (λ i above below. alike i (omega arith) below) (three .1)))
-
--- A run that is writable and, from `first` on, one that is read-only.
-pub in-either : (start first end : ℕ) → isRun false start first ≡ true → isRun true first end ≡ true → (at : ℕ) → start ≤ at → at < end
-    → cond (ltb at first) (run false first) (run true end) ≡ runOf at
-in-either start first end e f at low high =
-    either-side first at
-    (λ past. ap (λ b. cond b (run false first) (run true end)) (le-ltb at first past) ∙ in-a-run true first end f at past high)
-    (λ before. ap (λ b. cond b (run false first) (run true end)) (lt-ltb at first before) ∙ in-a-run false start first e at low before)
+the-run at r s =
+    let past = s .past in
+    let within = s .within in
+    let here = s .alike at (omega arith) past in
+    sym (ap₂ run here (ap (λ b. standsTo b at (edacSize - at)) here ∙ stands-to (r .«read_only») (edacSize - at) at (r .end) (omega arith) (omega arith) within (s .alike) (s .stops)))
 
 -- the byte that was asked for
 pub asked-of-a-run : (r : Run) (at : ℕ) → r ≡ runOf at → r .«read_only» ≡ readOnly at

@@ -1,3 +1,4 @@
 pub mod ReadOnly
 pub mod Runs
+pub mod Listed
 pub mod Files

@@ -1,3 +1,4 @@
-// EDAC memory's read-only bytes (`rows`), and stores that leave them as they are (`store`).
+// EDAC memory's read-only bytes (`rows`, by the `list` of them), and stores that leave them as they are (`store`).
+mod list;
 mod rows;
 pub mod store;

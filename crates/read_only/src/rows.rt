@@ -1,10 +1,12 @@
-// Which bytes of EDAC memory are read-only (02, T-02; ICD 12.4), by runs of bytes that stand alike.
+// Which bytes of EDAC memory are read-only (02, T-02, T-05; ICD 12.4), by runs of bytes that stand alike, worked from the list of rows.
+use crate::list::READ_ONLY;
+use memory::edac::EDAC_SIZE;
 ghost use mathlib.Core.Path.{_≡_};
-ghost use mathlib.Core.Bool.{true, false, cond};
-ghost use Prim.Native.Nat.{_≤_, _<_};
-ghost use lib.Dec.{ltb};
+ghost use mathlib.Core.Bool.{true};
+ghost use Prim.Native.Nat.{_<_};
 ghost use Rattle.memory.specs.Edac.{edacSize};
-ghost use Rattle.read_only.specs.Runs.{run, runOf};
+ghost use Rattle.read_only.specs.Runs.{runOf};
+ghost use Rattle.read_only.specs.Listed.{touching, rising, runIn, searchable};
 
 // Bytes that stand alike, and the address after the last of them.
 pub struct Run {
@@ -12,133 +14,74 @@ pub struct Run {
     pub end: usize,
 }
 
-// Of an address below `end`: from `first` on bytes are read-only, and before it they are not.
-fn writable_then_kept(at: usize, first: usize, end: usize) -> Run
-    ensures { λ r. ⌜ r ≡ cond (ltb at first) (run false first) (run true end) ⌝ }
+// Where a row, and what touches it, ends: `after` the row, unless the next one begins there.
+fn touching_end(after: usize, next: usize, stop: usize) -> usize
+    ensures { λ r. ⌜ r ≡ touching after next stop ⌝ }
 {
-    if at < first {
-        return Run {
-            read_only: false,
-            end: first,
-        };
+    if after < next {
+        return after;
     }
-    Run {
-        read_only: true,
-        end,
-    }
+    stop
 }
 
-// Addresses 0x000 to 0x0FF.
-fn first_page(at: usize) -> Run
-    requires { ⌜ at < 0x100 ⌝ }
-    ensures { λ r. ⌜ r ≡ runOf at ⌝ }
+// Of an address below `end`, by rows below `end`: from the last one back, to the first that does not begin behind the address.
+fn walked(rows: &[[u16; 2]], end: usize, at: usize) -> Run
+    requires { ⌜ (rising 0 (now rows) end ≡ true) × (at < end) ⌝ }
+    ensures { λ r. ⌜ r ≡ runIn (now (rows .entry)) end at ⌝ }
 {
-    // VBUS
-    if at < 0x010 {
-        return writable_then_kept(at, 0x00c, 0x010);
-    }
-    // VCC
-    if at < 0x024 {
-        return writable_then_kept(at, 0x020, 0x024);
-    }
-    // TEMP0
-    if at < 0x044 {
-        return writable_then_kept(at, 0x040, 0x044);
-    }
-    // TEMP2, TEMP3
-    if at < 0x050 {
-        return writable_then_kept(at, 0x048, 0x050);
-    }
-    // SPEED, MOMENTUM
-    if at < 0x05c {
-        return writable_then_kept(at, 0x054, 0x05c);
-    }
-    // HALL_DIGITAL
-    if at < 0x070 {
-        return writable_then_kept(at, 0x06c, 0x070);
-    }
-    // ADC_CALIBRATE
-    if at < 0x078 {
-        return writable_then_kept(at, 0x074, 0x078);
-    }
-    // SPEED_P_GAIN, SPEED_I_GAIN, SPEED_D_GAIN
-    if at < 0x08c {
-        return writable_then_kept(at, 0x080, 0x08c);
+    let mut k = rows.len();
+    let mut next = end; // where the row after this one begins
+    let mut stop = end; // where that one, and what touches it, ends
+    while 0 < k {
+        k -= 1;
+        let first = rows[k][0] as usize;
+        let last = rows[k][1] as usize;
+        stop = touching_end(last + 1, next, stop);
+        if first <= at {
+            if at <= last {
+                return Run {
+                    read_only: true,
+                    end: stop,
+                };
+            }
+            return Run {
+                read_only: false,
+                end: next,
+            };
+        }
+        next = first;
     }
     Run {
         read_only: false,
-        end: 0x100,
+        end: next,
     }
 }
 
-// Addresses 0x100 to 0x1FF.
-fn second_page(at: usize) -> Run
-    requires { ⌜ (0x100 ≤ at) × (at < 0x200) ⌝ }
-    ensures { λ r. ⌜ r ≡ runOf at ⌝ }
+// Of an address, by a list of rows: it is halved twice, and the part that is left, of 12 rows at most, is walked. So short a walk over a
+// constant list the compiler turns into comparisons, and the list is not laid down in memory at each call.
+fn searched(rows: &[[u16; 2]], at: usize) -> Run
+    requires { ⌜ (searchable (now rows) ≡ true) × (at < edacSize) ⌝ }
+    ensures { λ r. ⌜ r ≡ runIn (now (rows .entry)) edacSize at ⌝ }
 {
-    // PREVIOUS_SPEED
-    if at < 0x104 {
-        return writable_then_kept(at, 0x100, 0x104);
+    let second = rows[12][0] as usize;
+    let third = rows[19][0] as usize;
+    let fourth = rows[29][0] as usize;
+    if at < third {
+        if at < second {
+            return walked(&rows[0..12], second, at);
+        }
+        return walked(&rows[12..19], third, at);
     }
-    // SPEED_LAST_ERROR
-    if at < 0x10c {
-        return writable_then_kept(at, 0x108, 0x10c);
+    if at < fourth {
+        return walked(&rows[19..29], fourth, at);
     }
-    // TORQUE_T0 to TORQUE_T4
-    if at < 0x140 {
-        return writable_then_kept(at, 0x12c, 0x140);
-    }
-    // SLEEP_DUTY, DCDC_FREQ
-    if at < 0x170 {
-        return writable_then_kept(at, 0x168, 0x170);
-    }
-    // RESPONSE_AMPLITUDE, RESPONSE_PHASE
-    if at < 0x18c {
-        return writable_then_kept(at, 0x184, 0x18c);
-    }
-    // KT_ESTIMATE, R_ESTIMATE
-    if at < 0x198 {
-        return writable_then_kept(at, 0x190, 0x198);
-    }
-    // the three friction estimates, RUNDOWN_TIME
-    if at < 0x1ac {
-        return writable_then_kept(at, 0x19c, 0x1ac);
-    }
-    Run {
-        read_only: false,
-        end: 0x200,
-    }
+    walked(&rows[29..], EDAC_SIZE, at)
 }
 
-// Addresses from 0x200 on.
-fn later_pages(at: usize) -> Run
-    requires { ⌜ (0x200 ≤ at) × (at < edacSize) ⌝ }
-    ensures { λ r. ⌜ r ≡ runOf at ⌝ }
-{
-    // TEMP_R0, TEMP_R2, TEMP_R3, the six ADC_RAW
-    if at < 0x224 {
-        return writable_then_kept(at, 0x200, 0x224);
-    }
-    // FLAGS_ACTIVE
-    if at < 0x5d8 {
-        return writable_then_kept(at, 0x5d7, 0x5d8);
-    }
-    Run {
-        read_only: false,
-        end: 0x600,
-    }
-}
-
-// The bytes that stand alike from an address on: a chain of comparisons, asked once for each run of them.
+// The bytes that stand alike from an address on.
 pub fn run_from(at: usize) -> Run
     requires { ⌜ at < edacSize ⌝ }
     ensures { λ r. ⌜ r ≡ runOf at ⌝ }
 {
-    if at < 0x100 {
-        return first_page(at);
-    }
-    if at < 0x200 {
-        return second_page(at);
-    }
-    later_pages(at)
+    searched(&READ_ONLY, at)
 }
