@@ -1,5 +1,6 @@
-// The read-only rows of the ICD's Table 18, in address order, each with its own first and last address: 39 lines to tick off against the
-// table. What the ICD's prose says of every row is in docs/EDAC.md.
+// The read-only rows of the ICD's Table 18, in address order, each with its own first and last address, one line for each to tick off against
+// the table. TEMP_R3 is misprinted TEMP_R4 there. docs/EDAC.md has all rows, with what the ICD's prose says of them; `tools/rows` prints this
+// list in the table's form.
 pub const READ_ONLY: [[u16; 2]; 39] = [
     [0x00c, 0x00f], // VBUS
     [0x020, 0x023], // VCC
