@@ -336,11 +336,11 @@ between-cuts m k rows end at e t begun low =
     )
 
 pub what-is-searchable : (rows : List (List ℕ)) → searchable rows ≡ true
-    → (rising 0 rows edacSize ≡ true) × (apart 12 rows ≡ true) × (apart 19 rows ≡ true) × (apart 29 rows ≡ true)
+    → (rising 0 rows edacSize ≡ true) × (apart 9 rows ≡ true) × (apart 19 rows ≡ true) × (apart 29 rows ≡ true)
 unfolding searchable
 what-is-searchable rows t =
-    let one = both (rising 0 rows edacSize) (apart 12 rows && (apart 19 rows && apart 29 rows)) t in
-    let two = both (apart 12 rows) (apart 19 rows && apart 29 rows) (one .1) in
+    let one = both (rising 0 rows edacSize) (apart 9 rows && (apart 19 rows && apart 29 rows)) t in
+    let two = both (apart 9 rows) (apart 19 rows && apart 29 rows) (one .1) in
     let three = both (apart 19 rows) (apart 29 rows) (two .1) in
     (one .0, two .0, three .0, three .1)
 

@@ -60,4 +60,4 @@ apart place rows = ltb (last (getD rows (place - 1) []) + 1) (first (getD rows p
 
 -- What the search asks of a list: rising order, and that rows do not touch at the three places where it is cut.
 unfoldable pub searchable : List (List ℕ) → Bool
-searchable rows = rising 0 rows edacSize && (apart 12 rows && (apart 19 rows && apart 29 rows))
+searchable rows = rising 0 rows edacSize && (apart 9 rows && (apart 19 rows && apart 29 rows))

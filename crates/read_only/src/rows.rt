@@ -57,20 +57,20 @@ fn walked(rows: &[[u16; 2]], end: usize, at: usize) -> Run
     }
 }
 
-// Of an address, by a list of rows: it is halved twice, and the part that is left, of 12 rows at most, is walked. So short a walk over a
+// Of an address, by a list of rows: it is halved twice, and the part that is left, of 10 rows at most, is walked. So short a walk over a
 // constant list the compiler turns into comparisons, and the list is not laid down in memory at each call.
 fn searched(rows: &[[u16; 2]], at: usize) -> Run
     requires { ⌜ (searchable (now rows) ≡ true) × (at < edacSize) ⌝ }
     ensures { λ r. ⌜ r ≡ runIn (now (rows .entry)) edacSize at ⌝ }
 {
-    let second = rows[12][0] as usize;
+    let second = rows[9][0] as usize;
     let third = rows[19][0] as usize;
     let fourth = rows[29][0] as usize;
     if at < third {
         if at < second {
-            return walked(&rows[0..12], second, at);
+            return walked(&rows[0..9], second, at);
         }
-        return walked(&rows[12..19], third, at);
+        return walked(&rows[9..19], third, at);
     }
     if at < fourth {
         return walked(&rows[19..29], fourth, at);

@@ -16,7 +16,7 @@ to-the-end : (rows : List (List ℕ)) (k : ℕ) → take (length rows - k) (drop
 to-the-end rows k = take-all (length rows - k) (drop k rows) (simp length-drop (omega arith))
 
 index-1-second : tie.Need-index-1-second
-index-1-second c = a-place-to-cut 12 (c .args .rows .now) (what-is-searchable (c .args .rows .now) (c .pre .0) .1)
+index-1-second c = a-place-to-cut 9 (c .args .rows .now) (what-is-searchable (c .args .rows .now) (c .pre .0) .1)
 
 index-2-second : tie.Need-index-2-second
 index-2-second c = search needs
@@ -24,7 +24,7 @@ index-2-second c = search needs
 cast-second : tie.Need-cast-second
 cast-second c =
     let ok = what-is-searchable (c .before .args .rows .now) (c .before .pre .0) in
-    let below = a-row-lies-below 12 0 (c .before .args .rows .now) edacSize (ok .0) (a-place-to-cut 12 (c .before .args .rows .now) (ok .1)) in
+    let below = a-row-lies-below 9 0 (c .before .args .rows .now) edacSize (ok .0) (a-place-to-cut 9 (c .before .args .rows .now) (ok .1)) in
     record { fits = omega (arith, below .0, below .1) }
 
 index-1-third : tie.Need-index-1-third
@@ -58,17 +58,17 @@ part-walked-start : tie.Need-part-walked-start
 part-walked-start c = search needs
 
 part-walked-end : tie.Need-part-walked-end
-part-walked-end c = omega (arith, a-place-to-cut 12 (c .before .before .before .before .before .args .rows .now) (what-is-searchable (c .before .before .before .before .before .args .rows .now) (c .before .before .before .before .before .pre .0) .1))
+part-walked-end c = omega (arith, a-place-to-cut 9 (c .before .before .before .before .before .args .rows .now) (what-is-searchable (c .before .before .before .before .before .args .rows .now) (c .before .before .before .before .before .pre .0) .1))
 
 walked-requires : tie.Need-walked-requires
 walked-requires c κs =
     let ok = what-is-searchable (c .before .before .before .before .before .before .args .rows .now) (c .before .before .before .before .before .before .pre .0) in
-    (before-a-cut 11 (c .before .before .before .before .before .before .args .rows .now) edacSize (c .before .before .before .before .before .before .args .at) (ok .0) (ok .1) (c .before .if2 .taken) .0, c .before .if2 .taken)
+    (before-a-cut 8 (c .before .before .before .before .before .before .args .rows .now) edacSize (c .before .before .before .before .before .before .args .at) (ok .0) (ok .1) (c .before .if2 .taken) .0, c .before .if2 .taken)
 
 returns : tie.Need-returns
 returns c =
     let ok = what-is-searchable (c .before .before .before .before .before .before .before .args .rows .now) (c .before .before .before .before .before .before .before .pre .0) in
-    c .walked .ensures ∙ sym (before-a-cut 11 (c .before .before .before .before .before .before .before .args .rows .now) edacSize (c .before .before .before .before .before .before .before .args .at) (ok .0) (ok .1) (c .before .before .if2 .taken) .1)
+    c .walked .ensures ∙ sym (before-a-cut 8 (c .before .before .before .before .before .before .before .args .rows .now) edacSize (c .before .before .before .before .before .before .before .args .at) (ok .0) (ok .1) (c .before .before .if2 .taken) .1)
 
 sub-walked-2 : tie.Need-sub-walked-2
 sub-walked-2 c = search needs
@@ -82,12 +82,12 @@ part-walked-end-2 c = omega (arith, a-place-to-cut 19 (c .before .before .before
 walked-requires-2 : tie.Need-walked-requires-2
 walked-requires-2 c κs =
     let ok = what-is-searchable (c .before .before .before .before .before .before .args .rows .now) (c .before .before .before .before .before .before .pre .0) in
-    (between-cuts 12 6 (c .before .before .before .before .before .before .args .rows .now) edacSize (c .before .before .before .before .before .before .args .at) (ok .0) (ok .2) (c .before .if2 .left) (c .before .before .if1 .taken) .0, c .before .before .if1 .taken)
+    (between-cuts 9 9 (c .before .before .before .before .before .before .args .rows .now) edacSize (c .before .before .before .before .before .before .args .at) (ok .0) (ok .2) (c .before .if2 .left) (c .before .before .if1 .taken) .0, c .before .before .if1 .taken)
 
 returns-2 : tie.Need-returns-2
 returns-2 c =
     let ok = what-is-searchable (c .before .before .before .before .before .before .before .args .rows .now) (c .before .before .before .before .before .before .before .pre .0) in
-    c .walked2 .ensures ∙ sym (between-cuts 12 6 (c .before .before .before .before .before .before .before .args .rows .now) edacSize (c .before .before .before .before .before .before .before .args .at) (ok .0) (ok .2) (c .before .before .if2 .left) (c .before .before .before .if1 .taken) .1)
+    c .walked2 .ensures ∙ sym (between-cuts 9 9 (c .before .before .before .before .before .before .before .args .rows .now) edacSize (c .before .before .before .before .before .before .before .args .at) (ok .0) (ok .2) (c .before .before .if2 .left) (c .before .before .before .if1 .taken) .1)
 
 sub-walked-3 : tie.Need-sub-walked-3
 sub-walked-3 c = search needs
