@@ -1,6 +1,7 @@
 """rows.py DOCUMENT ROWS PROGRAM WORDS..: the read-only rows that ROWS prints (tools/rows), row by row against those of the document's
-table (docs/EDAC.md), and address by address against what the program finds out of the C face (compare/c/rows.c). The same is
-then done with faults planted in copies of the list and in what was found out: each must be told, and a malformed list be refused."""
+table (docs/EDAC.md), and address by address against what the program finds out of the C face (compare/c/rows.c); and all rows of the
+table, writable ones too, against that. The same is then done with faults planted in copies of the list, in the rows of the table and in
+what was found out: each must be told, and a malformed list be refused."""
 
 import itertools
 import os
@@ -16,7 +17,7 @@ document, command, *program = sys.argv[1:]
 
 
 def documented():
-    """The read-only rows of the document's table: address, file, name. The table must be whole, or a row could go unseen."""
+    """The rows of the document's table: address, file, name, and read-only or writable. The table must be whole, or a row could go unseen."""
     with open(document, encoding="utf8") as f:
         parts = re.split(r"^## The ([0-9]+) rows$", f.read(), flags=re.M)
     assert len(parts) == 3, f"{document} does not have one heading '## The N rows'"
@@ -27,8 +28,7 @@ def documented():
     for line in lines[1:]:
         row = ROW.fullmatch(line)
         assert row, f"{document}: not five cells with read-only or writable in the fourth: {line}"
-        if row[4] == "read-only":
-            rows.append([row[1], row[2], row[3]])
+        rows.append([row[1], row[2], row[3], row[4]])
     return rows
 
 
@@ -48,6 +48,29 @@ def found_out():
     return [("WRITE EDAC", lines[0]), ("WRITE FILE", lines[1])]
 
 
+def ends_of(address):
+    """The first and the last address of a row."""
+    ends = [int(end, 16) for end in address.split(" to ")]
+    return ends[0], ends[-1]
+
+
+def on_the_page(page, found):
+    """What is wrong with rows of the document: their order, their file, and how their bytes stand. For each a name, a colon, and what."""
+    told, behind = [], 0
+    for address, file, name, mark in page:
+        first, last = ends_of(address)
+        if not behind <= first <= last < len(found[0][1]):
+            told.append(f"{name}: {address} does not follow the row before it")
+        behind = last + 1
+        due = f"0x{first // 4:02X}" if last < len(found[1][1]) else "-"
+        if file != due:
+            told.append(f"{name}: the file of {address} is {due}, and not {file}")
+        for by, letters in found:
+            if not set(letters[first : last + 1]) <= {"R" if mark == "read-only" else "W"}:
+                told.append(f"{name}: by {by} the bytes of {address} are not {mark}")
+    return told
+
+
 def differences(rows, found):
     """What does not agree: for each a name, a colon, and what is wrong."""
     told = []
@@ -58,8 +81,8 @@ def differences(rows, found):
             told.append(f"row {number}: printed is {'  '.join(came)}; {document} has {'  '.join(due)}")
     kept = set()
     for row in rows:
-        ends = [int(end, 16) for end in row[0].split(" to ")]
-        kept.update(range(ends[0], ends[-1] + 1))
+        first, last = ends_of(row[0])
+        kept.update(range(first, last + 1))
     for by, letters in found:
         for at, letter in enumerate(letters):
             if letter == "R" and at not in kept:
@@ -113,10 +136,11 @@ def malformed(text):
     yield "a list that does not end", cut, cut.count("\n")
 
 
-table = documented()
+page = documented()
+table = [row[:3] for row in page if row[3] == "read-only"]
 rows = printed()
 found = found_out()
-told = differences(rows, found)
+told = differences(rows, found) + on_the_page(page, found)
 if told:
     print("\n".join(told[:5]))
     sys.exit(f"{command}, {document} and the C face do not agree; differences: {len(told)}")
@@ -137,6 +161,17 @@ with tempfile.TemporaryDirectory() as folder:
         refused = run.returncode == 1 and run.stdout == "" and run.stderr.startswith(f"{copy}:{number}: ")
         assert refused, f"{fault}: not refused at line {number}: {(run.stderr or run.stdout)[:100]!r}"
         faults += 1
+for name, which, cell, due in [
+    ("INERTIA", 0, "0x0A0 to 0x0A4", ["MOTOR_KT"]),
+    ("INERTIA", 0, "0x09B to 0x0A3", ["INERTIA", "INERTIA"]),
+    ("INERTIA", 1, "0x29", ["INERTIA"]),
+    ("INERTIA", 3, "read-only", ["INERTIA", "INERTIA"]),
+    ("SPEED", 3, "writable", ["SPEED", "SPEED"]),
+    ("FLAGS_ACTIVE", 0, "0x5D7 to 0x5D8", ["FLAGS_ACTIVE", "FAULTS_MASK"]),
+]:
+    wrong = [row[:which] + [cell] + row[which + 1 :] if row[2] == name else row for row in page]
+    expect(f"{name} with {cell}", on_the_page(wrong, found), due)
+    faults += 1
 for which, at in [(0, 0x000), (0, 0x00C), (0, 0x5D7), (0, 0x5FF), (1, 0x000), (1, 0x00C), (1, 0x3FF)]:
     by, letters = found[which]
     wrong = list(found)
@@ -144,6 +179,6 @@ for which, at in [(0, 0x000), (0, 0x00C), (0, 0x5D7), (0, 0x5FF), (1, 0x000), (1
     expect("a letter altered", differences(rows, wrong), [f"0x{at:03X} by {by}"])
     faults += 1
 print(
-    f"{len(rows)} read-only rows agree with {document}, {len(found[0][1])} addresses with the C face by WRITE EDAC and "
-    f"{len(found[1][1])} by WRITE FILE; {faults} planted faults are told"
+    f"{len(rows)} read-only rows agree with {document}, its {len(page)} rows with the C face, and {len(found[0][1])} addresses with it by "
+    f"WRITE EDAC and {len(found[1][1])} by WRITE FILE; {faults} planted faults are told"
 )

@@ -1,6 +1,6 @@
 -- Rows in rising order: what they say of an address is how it stands, and they may be cut where they do not touch. Assumes nothing.
 use mathlib.Core.Path.{_≡_, refl, sym, ap, ap₂, subst, _∙_}
-use mathlib.Core.Bool.{Bool, true, false, cond, not, _&&_, _||_, false≢true}
+use mathlib.Core.Bool.{Bool, true, false, cond, not, _&&_, and-false}
 use mathlib.Core.List.{List, [], _∷_}
 use mathlib.Core.Logic.{_⊎_, inl, inr}
 use Prim.Native.Nat.{ℕ, zero, suc, _+_, _-_, _≤_, _<_}
@@ -49,28 +49,23 @@ in-one [] at = refl
 in-one (entry ∷ rows) at = in-one rows at
 
 in-the-row : (entry : List ℕ) (rows : List (List ℕ)) (at : ℕ) → first entry ≤ at → at ≤ last entry → inSome (entry ∷ rows) at ≡ true
-unfolding inSome
+unfolding inSomeOr
 in-the-row entry rows at low high =
     ap (λ b. inSomeOr b rows at) (ap₂ _&&_ (le-leb (first entry) at low) (le-leb at (last entry) high)) ∙ in-one rows at
 
 -- an address that is not in a list's first row
 past-the-row : (entry : List ℕ) (rows : List (List ℕ)) (at : ℕ) → row (first entry) (last entry) at ≡ false → inSome (entry ∷ rows) at ≡ inSome rows at
-unfolding inSome inSomeOr
-past-the-row entry [] at e = e
-past-the-row entry (next ∷ rows) at e = ap (λ b. inSomeOr b (next ∷ rows) at) e
+unfolding inSomeOr
+past-the-row entry rows at e = ap (λ b. inSomeOr b rows at) e
 
 before-the-row : (entry : List ℕ) (rows : List (List ℕ)) (at : ℕ) → at < first entry → inSome (entry ∷ rows) at ≡ inSome rows at
 before-the-row entry rows at low = past-the-row entry rows at (ap (λ b. b && leb at (last entry)) (lt-leb (first entry) at low))
 
 behind-the-row : (entry : List ℕ) (rows : List (List ℕ)) (at : ℕ) → last entry < at → inSome (entry ∷ rows) at ≡ inSome rows at
 behind-the-row entry rows at high = past-the-row entry rows at (ap (λ b. leb (first entry) at && b) (lt-leb at (last entry) high) ∙ and-false (leb (first entry) at))
-  where
-    and-false : (b : Bool) → (b && false) ≡ false
-    and-false true = refl
-    and-false false = refl
 
 none-before : (from : ℕ) (rows : List (List ℕ)) (end at : ℕ) → rising from rows end ≡ true → at < begins rows end → inSome rows at ≡ false
-unfolding inSome
+unfolding inSomeOr
 none-before from [] end at e low = refl
 none-before from (entry ∷ rows) end at e low =
     let up = rises from entry rows end e in
@@ -160,7 +155,7 @@ behind-the-first entry rows end at low high = simp (le-ltb at (first entry) low,
 
 -- What rows in rising order say of an address is how it stands.
 pub stands : (from : ℕ) (rows : List (List ℕ)) (end at : ℕ) → rising from rows end ≡ true → at < end → Stands (inSome rows) end at (runIn rows end at)
-unfolding runIn inSome
+unfolding runIn inSomeOr
 stands from [] end at e inside = record { past = inside; within = omega arith; alike = λ i low high. refl; stops = inl refl }
 stands from (entry ∷ rows) end at e inside =
     let up = rises from entry rows end e in
@@ -227,7 +222,7 @@ rises-higher (suc k) from (entry ∷ rows) end e short =
     omega (arith, up .0, up .1)
 
 -- An address at or behind the beginning of a row: the rows before that one say nothing of it.
-pub skipped : (k : ℕ) (from : ℕ) (rows : List (List ℕ)) (end at : ℕ) → rising from rows end ≡ true → k < length rows → first (getD rows k []) ≤ at
+skipped : (k : ℕ) (from : ℕ) (rows : List (List ℕ)) (end at : ℕ) → rising from rows end ≡ true → k < length rows → first (getD rows k []) ≤ at
     → runIn rows end at ≡ runIn (drop k rows) end at
 skipped k from [] end at e short begun = absurd (not-suc-le-zero short)
 skipped zero from (entry ∷ rows) end at e short begun = refl
@@ -237,7 +232,7 @@ skipped (suc k) from (entry ∷ rows) end at e short begun =
     behind-the-first entry rows end at (omega (arith, up .1)) (omega arith)
     ∙ skipped k (last entry + 1) rows end at (up .2) (omega arith) begun
 
-pub begins-at : (k : ℕ) (rows : List (List ℕ)) (end : ℕ) → k < length rows → begins (drop k rows) end ≡ first (getD rows k [])
+begins-at : (k : ℕ) (rows : List (List ℕ)) (end : ℕ) → k < length rows → begins (drop k rows) end ≡ first (getD rows k [])
 begins-at k rows end short = ap (λ l. begins l end) (drop-cons rows k [] short)
 
 -- rows cut before one that the row before does not touch
@@ -257,7 +252,7 @@ module _ (end : ℕ) where
   cut-ends (suc k) (entry ∷ rows) short gap = ap₂ (touching (last entry + 1)) (cut-begins k rows (omega arith)) (cut-ends k rows (omega arith) gap)
 
   -- An address before the cut: the rows behind it say nothing of it.
-  pub cut : (k : ℕ) (rows : List (List ℕ)) (at : ℕ) → k < length rows → last (getD rows k []) + 1 < cutAt k rows → at < cutAt k rows
+  cut : (k : ℕ) (rows : List (List ℕ)) (at : ℕ) → k < length rows → last (getD rows k []) + 1 < cutAt k rows → at < cutAt k rows
       → runIn rows end at ≡ runIn (take (suc k) rows) (cutAt k rows) at
   unfolding runIn
   cut k [] at short gap low = absurd (not-suc-le-zero short)

@@ -102,7 +102,7 @@ stands-to so (suc left) from end all low high alike stop =
     there here (inl e) = absurd (omega arith)
     there here (inr e) = ap (λ b. cond b (standsTo so (suc from) left) from) (ap (λ (n : ℕ). Bool·beq so (readOnly n)) here ∙ ap (Bool·beq so) e ∙ beq-other so) ∙ here
 
--- There is one such run.
+-- There is only one such run, `runOf`.
 pub the-run : (at : ℕ) (r : Run) → Stands readOnly edacSize at r → r ≡ runOf at
 unfolding runOf
 the-run at r s =

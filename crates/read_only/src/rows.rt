@@ -14,7 +14,7 @@ pub struct Run {
     pub end: usize,
 }
 
-// Where a row, and what touches it, ends: `after` the row, unless the next one begins there.
+// Where a row, and what touches it, ends: `after` the row, unless the next one begins there, and then at `stop`.
 fn touching_end(after: usize, next: usize, stop: usize) -> usize
     ensures { λ r. ⌜ r ≡ touching after next stop ⌝ }
 {
@@ -57,8 +57,8 @@ fn walked(rows: &[[u16; 2]], end: usize, at: usize) -> Run
     }
 }
 
-// Of an address, by a list of rows: it is halved twice, and the part that is left, of 10 rows at most, is walked. So short a walk over a
-// constant list the compiler turns into comparisons, and the list is not laid down in memory at each call.
+// Of an address, by a list of rows: it is halved twice, and the part that is left is walked. Of the 39 rows that leaves 10 at most: so short a
+// walk over a constant list the compiler turns into comparisons, and the list is not laid down in memory at each call.
 fn searched(rows: &[[u16; 2]], at: usize) -> Run
     requires { ⌜ (searchable (now rows) ≡ true) × (at < edacSize) ⌝ }
     ensures { λ r. ⌜ r ≡ runIn (now (rows .entry)) edacSize at ⌝ }

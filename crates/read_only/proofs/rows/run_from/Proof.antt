@@ -4,7 +4,7 @@ use mathlib.Core.Path.{refl, _∙_}
 use Prim.Native.Nat.{ℕ}
 use borrow.Author.Needs.{needs}
 use Rattle.read_only.specs.ReadOnly.{readOnly}
-use Rattle.read_only.specs.Listed.{inSomeOr, inSome, rising, searchable}
+use Rattle.read_only.specs.Listed.{inSomeOr, rising, searchable}
 use Rattle.read_only.proofs.Listed.{what-is-searchable, the-list-gives-the-run}
 use Rattle.read_only.proofs.rows.run_from.Statement.{statement}
 use Rattle.read_only.proofs.rows.run_from.Tie as tie
@@ -19,7 +19,7 @@ searched-requires c κs = (refl, c .before .pre)
 
 -- Row for row, it is the definition's.
 returns : tie.Need-returns
-unfolding readOnly inSome inSomeOr
+unfolding readOnly inSomeOr
 returns c =
     c .searched .ensures
     ∙ the-list-gives-the-run _ (c .before .before .args .at) (what-is-searchable _ (searched-requires (c .before) (c .searched .lifetimes) .0) .0) (λ (i : ℕ). refl) (c .before .before .pre)

@@ -1,7 +1,7 @@
 -- `read_only::rows::walked` meets its contract. The invariant: the address lies before the rows that are walked already, and it is known where
 -- they begin, and where the first of them, with those that touch it, ends. Assumes nothing.
 use mathlib.Core.Path.{_≡_, ap, _∙_}
-use mathlib.Core.Bool.{true, false}
+use mathlib.Core.Bool.{true}
 use Prim.Native.Nat.{_-_, _≤_, _<_}
 use borrow.Author.Needs.{needs}
 use native.Mathlib.Omega.{arith}
