@@ -98,12 +98,12 @@ int main(int count, char **words) {
         return done(0x03, 1028);
     }
     if (strcmp(word, "files") == 0) {
-        add_files(202, 0x66);
+        add_files(202, 0x5E);
         add_files(3, 0);
         return done(0x08, 1028);
     }
     if (strcmp(word, "files-0") == 0) {
-        add_files(4, 0x66);
+        add_files(4, 0x5E);
         add_files(168, 0);
         return done(0x08, 1028);
     }

@@ -21,9 +21,9 @@ static size_t dear(unsigned long code, uint8_t *data) {
         data[1] = 0;
         return 1028;
     }
-    if (code == 0x08) { /* WRITE FILE: 202 times DV_ESTIMATE, the file that is found writable last, and 3 times file 0 */
+    if (code == 0x08) { /* WRITE FILE: 202 times DRIVE_FREQ, of the files that are found writable last, and 3 times file 0 */
         for (int i = 0; i < 205; i++) {
-            data[length] = i < 202 ? 0x66 : 0;
+            data[length] = i < 202 ? 0x5E : 0;
             length += i < 202 ? 5 : 6;
         }
         return length;
