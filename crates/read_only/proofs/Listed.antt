@@ -8,8 +8,8 @@ use native.Mathlib.Nat.{not-suc-le-zero}
 use native.Mathlib.Omega.{arith}
 use borrow.Author.Tests.{lt-ltb, le-ltb, le-leb, lt-leb, leb-true, ltb-true, ltb-false}
 use lib.Dec.{leb, ltb}
-use lib.ListN.{length, getD, take, drop, List·getD-eq-default}
-use lib.Seq.{drop-cons, drop-length, drop-nil, getD-drop}
+use lib.ListN.{length, getD, take, drop, length-drop, List·getD-eq-default}
+use lib.Seq.{drop-cons, drop-length, drop-nil, getD-drop, getD-take, take-all}
 use Rattle.memory.specs.Edac.{edacSize}
 use Rattle.memory.proofs.Tests.{either-side}
 use Rattle.read_only.specs.declared.rows.Run.{Run}
@@ -287,6 +287,16 @@ rising-behind k from [] end e = ap (λ l. rising 0 l end) (drop-nil k) ∙ le-le
 rising-behind zero from (entry ∷ rows) end e = rising-from from 0 (entry ∷ rows) end (omega arith) e
 rising-behind (suc k) from (entry ∷ rows) end e = rising-behind k (last entry + 1) rows end (rises from entry rows end e .2)
 
+pub a-row-lies-below : (k : ℕ) (from : ℕ) (rows : List (List ℕ)) (end : ℕ) → rising from rows end ≡ true → k < length rows
+    → (first (getD rows k []) ≤ last (getD rows k [])) × (last (getD rows k []) < end)
+a-row-lies-below k from [] end e short = absurd (not-suc-le-zero short)
+a-row-lies-below zero from (entry ∷ rows) end e short =
+    let up = rises from entry rows end e in
+    let behind = begin-behind (last entry + 1) rows end (up .2) in
+    let before = begin-before-the-end (last entry + 1) rows end (up .2) in
+    (up .1, omega arith)
+a-row-lies-below (suc k) from (entry ∷ rows) end e short = a-row-lies-below k (last entry + 1) rows end (rises from entry rows end e .2) (omega arith)
+
 -- a place where a list may be cut is one of its places
 pub a-place-to-cut : (place : ℕ) (rows : List (List ℕ)) → apart place rows ≡ true → place < length rows
 a-place-to-cut place rows t =
@@ -295,10 +305,14 @@ a-place-to-cut place rows t =
     (λ past. let none : first (getD rows place []) ≡ 0 = ap first (List·getD-eq-default rows [] past) in absurd (omega arith))
     (λ there. there)
 
--- the first part
-pub before-a-cut : (k : ℕ) (rows : List (List ℕ)) (end at : ℕ) → rising 0 rows end ≡ true → apart (suc k) rows ≡ true → at < first (getD rows (suc k) [])
-    → (rising 0 (take (suc k) rows) (first (getD rows (suc k) [])) ≡ true) × (runIn rows end at ≡ runIn (take (suc k) rows) (first (getD rows (suc k) [])) at)
-before-a-cut k rows end at e t low =
+-- the part before it
+pub before-a-cut : (place : ℕ) (rows : List (List ℕ)) (end at : ℕ) → rising 0 rows end ≡ true → apart place rows ≡ true → at < first (getD rows place [])
+    → (rising 0 (take place rows) (first (getD rows place [])) ≡ true) × (runIn rows end at ≡ runIn (take place rows) (first (getD rows place [])) at)
+before-a-cut zero rows end at e t low =
+    let gap = ltb-true (last (getD rows 0 []) + 1) (first (getD rows 0 [])) t in
+    let there = a-place-to-cut 0 rows t in
+    absurd (omega (arith, a-row-lies-below 0 0 rows end e there .0))
+before-a-cut (suc k) rows end at e t low =
     let there = a-place-to-cut (suc k) rows t in
     let here = begins-at (suc k) rows end there in
     let gap = ltb-true (last (getD rows (suc k - 1) []) + 1) (first (getD rows (suc k) [])) t in
@@ -308,27 +322,24 @@ before-a-cut k rows end at e t low =
       cut end k rows at (omega arith) (omega arith) (omega arith) ∙ ap (λ (n : ℕ). runIn (take (suc k) rows) n at) here,
     )
 
--- the last part
-pub behind-a-cut : (k : ℕ) (rows : List (List ℕ)) (end at : ℕ) → rising 0 rows end ≡ true → k < length rows → first (getD rows k []) ≤ at
-    → (rising 0 (drop k rows) end ≡ true) × (runIn rows end at ≡ runIn (drop k rows) end at)
-behind-a-cut k rows end at e there begun = (rising-behind k 0 rows end e, skipped k 0 rows end at e there begun)
+-- the part behind it
+pub behind-a-cut : (place : ℕ) (rows : List (List ℕ)) (end at : ℕ) → rising 0 rows end ≡ true → apart place rows ≡ true → first (getD rows place []) ≤ at
+    → (rising 0 (drop place rows) end ≡ true) × (runIn rows end at ≡ runIn (drop place rows) end at)
+behind-a-cut place rows end at e t begun = (rising-behind place 0 rows end e, skipped place 0 rows end at e (a-place-to-cut place rows t) begun)
 
--- one between
-pub between-cuts : (m k : ℕ) (rows : List (List ℕ)) (end at : ℕ) → rising 0 rows end ≡ true → apart (m + suc k) rows ≡ true → first (getD rows m []) ≤ at
-    → at < first (getD rows (m + suc k) [])
-    → (rising 0 (take (suc k) (drop m rows)) (first (getD rows (m + suc k) [])) ≡ true)
-    × (runIn rows end at ≡ runIn (take (suc k) (drop m rows)) (first (getD rows (m + suc k) [])) at)
-between-cuts m k rows end at e t begun low =
-    let there = a-place-to-cut (m + suc k) rows t in
-    let rest = behind-a-cut m rows end at e (omega arith) begun in
-    let before : m + (suc k - 1) ≡ m + suc k - 1 = omega arith in
-    let next = getD-drop m rows (suc k) [] in
-    let part = before-a-cut k (drop m rows) end at (rest .0)
-    (ap₂ (λ a b. ltb (last a + 1) (first b)) (getD-drop m rows (suc k - 1) [] ∙ ap (λ (j : ℕ). getD rows j []) before) next ∙ t)
-    (subst (λ a. at < first a) (sym next) low) in (
-      ap (λ a. rising 0 (take (suc k) (drop m rows)) (first a)) (sym next) ∙ part .0,
-      rest .1 ∙ part .1 ∙ ap (λ a. runIn (take (suc k) (drop m rows)) (first a) at) next,
-    )
+-- a place in a part
+pub apart-before : (place n : ℕ) (rows : List (List ℕ)) → place < n → apart place rows ≡ true → apart place (take n rows) ≡ true
+apart-before place n rows less t =
+    ap₂ (λ a b. ltb (last a + 1) (first b)) (getD-take n rows (place - 1) [] (omega arith)) (getD-take n rows place [] less) ∙ t
+
+pub apart-behind : (place n : ℕ) (rows : List (List ℕ)) → 0 < place → apart (n + place) rows ≡ true → apart place (drop n rows) ≡ true
+apart-behind place n rows some t =
+    let before : n + (place - 1) ≡ n + place - 1 = omega arith in
+    ap₂ (λ a b. ltb (last a + 1) (first b)) (getD-drop n rows (place - 1) [] ∙ ap (λ (j : ℕ). getD rows j []) before) (getD-drop n rows place []) ∙ t
+
+-- the rest of a list
+pub to-the-end : (place : ℕ) (rows : List (List ℕ)) → take (length rows - place) (drop place rows) ≡ drop place rows
+to-the-end place rows = take-all (length rows - place) (drop place rows) (simp length-drop (omega arith))
 
 pub what-is-searchable : (rows : List (List ℕ)) → searchable rows ≡ true
     → (rising 0 rows edacSize ≡ true) × (apart 9 rows ≡ true) × (apart 19 rows ≡ true) × (apart 29 rows ≡ true)
@@ -340,16 +351,6 @@ what-is-searchable rows t =
     (one .0, two .0, three .0, three .1)
 
 -- ---- a walk over rows, from the last back
-
-pub a-row-lies-below : (k : ℕ) (from : ℕ) (rows : List (List ℕ)) (end : ℕ) → rising from rows end ≡ true → k < length rows
-    → (first (getD rows k []) ≤ last (getD rows k [])) × (last (getD rows k []) < end)
-a-row-lies-below k from [] end e short = absurd (not-suc-le-zero short)
-a-row-lies-below zero from (entry ∷ rows) end e short =
-    let up = rises from entry rows end e in
-    let behind = begin-behind (last entry + 1) rows end (up .2) in
-    let before = begin-before-the-end (last entry + 1) rows end (up .2) in
-    (up .1, omega arith)
-a-row-lies-below (suc k) from (entry ∷ rows) end e short = a-row-lies-below k (last entry + 1) rows end (rises from entry rows end e .2) (omega arith)
 
 pub walk-starts : (rows : List (List ℕ)) (end : ℕ) → (end ≡ begins (drop (length rows) rows) end) × (end ≡ ends (drop (length rows) rows) end)
 unfolding ends

@@ -6,7 +6,7 @@ ghost use mathlib.Core.Bool.{true};
 ghost use Prim.Native.Nat.{_<_};
 ghost use Rattle.memory.specs.Edac.{edacSize};
 ghost use Rattle.read_only.specs.Runs.{runOf};
-ghost use Rattle.read_only.specs.Listed.{touching, rising, runIn, searchable};
+ghost use Rattle.read_only.specs.Listed.{touching, rising, runIn, apart, searchable};
 
 // Bytes that stand alike, and the address after the last of them.
 pub struct Run {
@@ -57,25 +57,29 @@ fn walked(rows: &[[u16; 2]], end: usize, at: usize) -> Run
     }
 }
 
-// Of an address, by a list of rows: it is halved twice, and the part that is left is walked. Of the 39 rows that leaves 10 at most: so short a
-// walk over a constant list the compiler turns into comparisons, and the list is not laid down in memory at each call.
+// Of an address below `end`, by rows below `end`: they are cut before the one at `place`, and the part that the address is in is walked.
+fn halved(rows: &[[u16; 2]], place: usize, end: usize, at: usize) -> Run
+    requires { ⌜ (rising 0 (now rows) end ≡ true) × (apart place (now rows) ≡ true) × (at < end) ⌝ }
+    ensures { λ r. ⌜ r ≡ runIn (now (rows .entry)) end at ⌝ }
+{
+    let middle = rows[place][0] as usize;
+    if at < middle {
+        return walked(&rows[0..place], middle, at);
+    }
+    walked(&rows[place..], end, at)
+}
+
+// Of an address, by a list of rows, which is halved twice. Of the 39 rows that leaves 10 at most to walk: so short a walk over a constant list
+// the compiler turns into comparisons, and the list is not laid down in memory at each call.
 fn searched(rows: &[[u16; 2]], at: usize) -> Run
     requires { ⌜ (searchable (now rows) ≡ true) × (at < edacSize) ⌝ }
     ensures { λ r. ⌜ r ≡ runIn (now (rows .entry)) edacSize at ⌝ }
 {
-    let second = rows[9][0] as usize;
-    let third = rows[19][0] as usize;
-    let fourth = rows[29][0] as usize;
-    if at < third {
-        if at < second {
-            return walked(&rows[0..9], second, at);
-        }
-        return walked(&rows[9..19], third, at);
+    let middle = rows[19][0] as usize;
+    if at < middle {
+        return halved(&rows[0..19], 9, middle, at);
     }
-    if at < fourth {
-        return walked(&rows[19..29], fourth, at);
-    }
-    walked(&rows[29..], EDAC_SIZE, at)
+    halved(&rows[19..], 10, EDAC_SIZE, at)
 }
 
 // The bytes that stand alike from an address on.
