@@ -60,9 +60,9 @@ def on_the_page(page, found):
     for address, file, name, mark in page:
         first, last = ends_of(address)
         if not behind <= first <= last < len(found[0][1]):
-            told.append(f"{name}: {address} does not follow the row before it")
+            told.append(f"{name}: {address} does not follow the row before it, or lies outside EDAC memory")
         behind = last + 1
-        due = f"0x{first // 4:02X}" if last < len(found[1][1]) else "-"
+        due = f"0x{first // 4:02X}" if first % 4 == 0 and last == first + 3 and last < len(found[1][1]) else "-"
         if file != due:
             told.append(f"{name}: the file of {address} is {due}, and not {file}")
         for by, letters in found:
@@ -162,9 +162,10 @@ with tempfile.TemporaryDirectory() as folder:
         assert refused, f"{fault}: not refused at line {number}: {(run.stderr or run.stdout)[:100]!r}"
         faults += 1
 for name, which, cell, due in [
-    ("INERTIA", 0, "0x0A0 to 0x0A4", ["MOTOR_KT"]),
+    ("INERTIA", 0, "0x0A0 to 0x0A4", ["INERTIA", "MOTOR_KT"]),
     ("INERTIA", 0, "0x09B to 0x0A3", ["INERTIA", "INERTIA"]),
     ("INERTIA", 1, "0x29", ["INERTIA"]),
+    ("FAULT_OVERCURRENT", 0, "0x1D4 to 0x1D4", ["FAULT_OVERCURRENT"]),
     ("INERTIA", 3, "read-only", ["INERTIA", "INERTIA"]),
     ("SPEED", 3, "writable", ["SPEED", "SPEED"]),
     ("FLAGS_ACTIVE", 0, "0x5D7 to 0x5D8", ["FLAGS_ACTIVE", "FAULTS_MASK"]),

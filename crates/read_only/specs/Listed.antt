@@ -17,12 +17,13 @@ first entry = getD entry 0 0
 abbrev pub last : List ℕ → ℕ
 last entry = getD entry 1 0
 
--- Whether an address is in one of the rows. They are joined from the left, as `readOnly` joins its own, so that the two can be compared as
--- they stand.
+-- `so`, or that an address is in one of the rows. They are joined from the left, as `readOnly` joins its own, so that the two can be compared
+-- as they stand.
 unfoldable pub inSomeOr : Bool → List (List ℕ) → ℕ → Bool
 inSomeOr so [] at = so
 inSomeOr so (entry ∷ rows) at = inSomeOr (so || row (first entry) (last entry) at) rows at
 
+-- Whether an address is in one of the rows.
 abbrev pub inSome : List (List ℕ) → ℕ → Bool
 inSome = inSomeOr false
 

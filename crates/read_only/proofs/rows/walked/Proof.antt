@@ -11,9 +11,6 @@ use Rattle.read_only.specs.Listed.{begins, ends}
 use Rattle.read_only.proofs.Listed.{a-row-lies-below, walk-starts, turn-begins, turn-ends, found-in-a-row, found-between, found-before}
 use Rattle.read_only.proofs.rows.walked.Statement.{statement}
 use Rattle.read_only.proofs.rows.walked.Tie as tie
-use Rattle.read_only.proofs.rows.walked.Reads as reads
-use Rattle.read_only.proofs.rows.walked.Lts as lts
-use Rattle.read_only.proofs.rows.touching_end.Reads as touching-end-reads
 
 abbrev Inv-loop : tie.InvT-loop
 Inv-loop rows end at k₀ next₀ stop₀ k next stop = (k ≤ length rows) × (at < next) × (next ≡ begins (drop k rows) end) × (stop ≡ ends (drop k rows) end)
