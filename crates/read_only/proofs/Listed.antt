@@ -28,6 +28,11 @@ rises from entry rows end e =
     let two = both (leb (first entry) (last entry)) (rising (last entry + 1) rows end) (one .1) in
     (leb-true _ _ (one .0), leb-true _ _ (two .0), two .1)
 
+so-they-rise : (from : ℕ) (entry : List ℕ) (rows : List (List ℕ)) (end : ℕ) → from ≤ first entry → first entry ≤ last entry → rising (last entry + 1) rows end ≡ true
+    → rising from (entry ∷ rows) end ≡ true
+unfolding rising
+so-they-rise from entry rows end low some e = simp (le-leb from (first entry) low, le-leb (first entry) (last entry) some, e)
+
 begin-behind : (from : ℕ) (rows : List (List ℕ)) (end : ℕ) → rising from rows end ≡ true → from ≤ begins rows end
 unfolding rising
 begin-behind from [] end e = leb-true from end e
@@ -235,6 +240,12 @@ skipped (suc k) from (entry ∷ rows) end at e short begun =
 begins-at : (k : ℕ) (rows : List (List ℕ)) (end : ℕ) → k < length rows → begins (drop k rows) end ≡ first (getD rows k [])
 begins-at k rows end short = ap (λ l. begins l end) (drop-cons rows k [] short)
 
+-- a row before rows that say the same of an address
+and-so-with-a-row : (entry : List ℕ) (rows others : List (List ℕ)) (end end′ at : ℕ) → ends (entry ∷ rows) end ≡ ends (entry ∷ others) end′ → runIn rows end at ≡ runIn others end′ at
+    → runIn (entry ∷ rows) end at ≡ runIn (entry ∷ others) end′ at
+unfolding runIn
+and-so-with-a-row entry rows others end end′ at = ap₂ (λ (n : ℕ) r. cond (ltb at (first entry)) (run false (first entry)) (cond (leb at (last entry)) (run true n) r))
+
 -- rows cut before one that the row before does not touch
 module _ (end : ℕ) where
   -- where the part before the cut ends
@@ -257,11 +268,9 @@ module _ (end : ℕ) where
   unfolding runIn
   cut k [] at short gap low = absurd (not-suc-le-zero short)
   cut zero (entry ∷ rows) at short gap low =
-      ap₂ (λ (n : ℕ) r. cond (ltb at (first entry)) (run false (first entry)) (cond (leb at (last entry)) (run true n) r))
-      (sym (cut-ends zero (entry ∷ rows) short gap)) (before-the-rows rows end at low)
+      and-so-with-a-row entry rows [] end (begins rows end) at (sym (cut-ends zero (entry ∷ rows) short gap)) (before-the-rows rows end at low)
   cut (suc k) (entry ∷ rows) at short gap low =
-      ap₂ (λ (n : ℕ) r. cond (ltb at (first entry)) (run false (first entry)) (cond (leb at (last entry)) (run true n) r))
-      (sym (cut-ends (suc k) (entry ∷ rows) short gap)) (cut k rows at (omega arith) gap low)
+      and-so-with-a-row entry rows (take (suc k) rows) end (cutAt k rows) at (sym (cut-ends (suc k) (entry ∷ rows) short gap)) (cut k rows at (omega arith) gap low)
 
   rising-before : (k : ℕ) (from : ℕ) (rows : List (List ℕ)) → k < length rows → rising from rows end ≡ true → rising from (take (suc k) rows) (cutAt k rows) ≡ true
   unfolding rising
@@ -269,17 +278,17 @@ module _ (end : ℕ) where
   rising-before zero from (entry ∷ rows) short e =
       let up = rises from entry rows end e in
       let behind = begin-behind (last entry + 1) rows end (up .2) in
-      simp (le-leb from (first entry) (up .0), le-leb (first entry) (last entry) (up .1), le-leb (last entry + 1) (begins rows end) behind)
+      so-they-rise from entry [] (begins rows end) (up .0) (up .1) (le-leb (last entry + 1) (begins rows end) behind)
   rising-before (suc k) from (entry ∷ rows) short e =
       let up = rises from entry rows end e in
-      simp (le-leb from (first entry) (up .0), le-leb (first entry) (last entry) (up .1), rising-before k (last entry + 1) rows (omega arith) (up .2))
+      so-they-rise from entry (take (suc k) rows) (cutAt k rows) (up .0) (up .1) (rising-before k (last entry + 1) rows (omega arith) (up .2))
 
 rising-from : (from lower : ℕ) (rows : List (List ℕ)) (end : ℕ) → lower ≤ from → rising from rows end ≡ true → rising lower rows end ≡ true
 unfolding rising
 rising-from from lower [] end less e = let within = leb-true from end e in le-leb lower end (omega arith)
 rising-from from lower (entry ∷ rows) end less e =
     let up = rises from entry rows end e in
-    simp (le-leb lower (first entry) (omega (arith, up .0)), le-leb (first entry) (last entry) (up .1), up .2)
+    so-they-rise lower entry rows end (omega (arith, up .0)) (up .1) (up .2)
 
 rising-behind : (k from : ℕ) (rows : List (List ℕ)) (end : ℕ) → rising from rows end ≡ true → rising 0 (drop k rows) end ≡ true
 unfolding rising
@@ -385,6 +394,6 @@ module _ (rows : List (List ℕ)) (end k next stop : ℕ) (e : rising 0 rows end
 
 pub found-before : (rows : List (List ℕ)) (end k next at : ℕ) → k ≤ 0 → next ≡ begins (drop k rows) end → at < next → run false next ≡ runIn rows end at
 found-before rows end k next at none n low =
-    let first : k ≡ 0 = omega arith in
-    let begin : next ≡ begins rows end = n ∙ ap (λ (j : ℕ). begins (drop j rows) end) first in
+    let all : k ≡ 0 = omega arith in
+    let begin : next ≡ begins rows end = n ∙ ap (λ (j : ℕ). begins (drop j rows) end) all in
     ap (run false) begin ∙ sym (before-the-rows rows end at (omega (arith, begin)))
