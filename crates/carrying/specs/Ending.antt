@@ -1,6 +1,8 @@
 -- What a command comes to, and what its handler leaves: 01, "Commands" and "One byte in, one answer out". Assumes nothing.
 use Prim.Native.Nat.{ℕ}
+use mathlib.Core.Bool.{Bool, _&&_}
 use mathlib.Core.List.{List}
+use lib.Dec.{leb}
 use lib.ListN.{length}
 use Rattle.memory.specs.Bytes.{begun}
 use Rattle.blocks.specs.declared.Found.{Found}
@@ -11,6 +13,14 @@ use Rattle.carrying.specs.declared.Ended.the-variants.{Done, Refused, Un
 -- The longest data field of a message, and so of a reply: what the unit passes to the commands as `room`.
 abbrev pub longestData : ℕ
 longestData = 1028
+
+-- A bus may allow less (02, T-06 and T-11): what may be its limit. No less than 260, since a one-byte count of 0 asks for 256 bytes behind an
+-- address of four.
+abbrev pub leastLimit : ℕ
+leastLimit = 260
+
+abbrev pub isLimit : ℕ → Bool
+isLimit limit = leb leastLimit limit && leb limit longestData
 
 -- Done, with the reply's data and M afterwards; refused (answer 3 or 4); or an access to memory not fitted (answer 10). M is what
 -- the command can change.

@@ -1,4 +1,9 @@
-// What the rooms of the commands share: the two modes, and what a command comes to. No code.
+// What the rooms of the commands share: how much data a message may have, the two modes, and what a command comes to. No code.
+
+// The longest data field of a message, and the least that a bus may set as its limit.
+pub const LONGEST_DATA: usize = 1028;
+
+pub const LEAST_LIMIT: usize = 260;
 
 // The unit's two modes.
 pub enum Mode {

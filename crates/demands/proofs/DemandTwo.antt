@@ -4,12 +4,12 @@ use mathlib.Core.Path.{_≡_, refl, sym, ap, ap₂, _∙_, subst}
 use mathlib.Core.Bool.{Bool, true, false, cond}
 use mathlib.Core.Logic.{inl, inr}
 use mathlib.Core.List.{List, [], _∷_, _++_, append-assoc}
-use Prim.Native.Nat.{ℕ, suc, _+_, _-_, _*_, _/_, _%_, _^_, _≤_, _<_}
+use Prim.Native.Nat.{ℕ, suc, _+_, _-_, _*_, _/_, _%_, _^_, _≤_, _<_, min}
 use native.Mathlib.Omega.{arith}
 use borrow.Author.Tests.{le-leb, le-ltb, eq-eqb}
 use lib.Dec.{ltb, eqb}
 use lib.ListN.{length, take, drop, getD, replicate, length-append}
-use lib.Seq.{take-append-seam, getD-append-add, getD-append-seam}
+use lib.Seq.{take-append-seam, getD-append-add, getD-append-seam, length-take-le}
 use Rattle.crc.specs.Sum.{start, byteStep, sumFrom, sumOf}
 use Rattle.crc.proofs.Halving.{byteStep-below}
 use Rattle.line.specs.Framing.{fend}
@@ -20,10 +20,10 @@ use Rattle.line.specs.declared.receiver.Heard.the-variants as heard
 use Rattle.line.specs.Receiver.{opened, closedOf, Reception, receiveOf, Feed, feedOf}
 use Rattle.line.proofs.Escaping.{the-room-is-enough-for-the-longest}
 use Rattle.line.specs.Delivery.{deliveredOf}
-use Rattle.line.specs.Unpacking.{unpackOf, heardOf, keptOf, NoFend}
+use Rattle.line.specs.Unpacking.{Unpacked, unpackOf, heardOf, keptOf, NoFend}
 use Rattle.line.proofs.Runs.{a-closed-run-is-heard-counted-and-stored-as-it-unpacks}
 use Rattle.line.proofs.Bounds.{the-count-never-passes-one-above-the-largest, the-buffer-keeps-its-length}
-use Rattle.line.proofs.RoundTrip.{a-body-after-any-FEND-is-received-as-its-message, what-is-packed-is-received-back}
+use Rattle.line.proofs.RoundTrip.{a-body-unpacks-to-its-message, a-body-has-no-FEND, sound-at-the-close, a-body-after-any-FEND-is-received-as-its-message, what-is-packed-is-received-back}
 use Rattle.field.specs.Fields.{word16At, bytes16}
 use Rattle.field.proofs.Words.{two-bytes}
 use Rattle.memory.specs.Bytes.{stretch, begun}
@@ -32,13 +32,13 @@ use Rattle.carrying.specs.Held.{Held}
 use Rattle.carrying.proofs.Room.{either-way, Roomy, part}
 use Rattle.command.specs.Command.{commandOf}
 use Rattle.command.proofs.Room.{every-reply-has-room}
-use Rattle.answer.specs.declared.Answer.the-variants.{Taken, Elsewhere, BadCount}
+use Rattle.answer.specs.declared.Answer.the-variants.{Taken, Oversize, Elsewhere, BadCount}
 use Rattle.answer.specs.Answers.{sentOf}
 use Rattle.judging.specs.declared.Unit.{Unit}
 use Rattle.judging.specs.declared.Verdict.the-variants.{Quiet, Command}
 use Rattle.judging.specs.declared.fitting.Fit.the-variants.{Fits, Unfit}
 use Rattle.judging.specs.Fitting.{framAsSetUp, countFit, largestCount, lengthsFit, stepFit}
-use Rattle.judging.specs.Judging.{soundOf, runOf, verdictOf, withReceiver, receivedOf, judgeOf}
+use Rattle.judging.specs.Judging.{dropped, soundOf, runOf, verdictOf, withReceiver, receivedOf, judgeOf}
 use Rattle.judging.proofs.Serving.{a-served-step-fits}
 use Rattle.replying.specs.Replies.{codeOf, polls, replyControl, sealed, replyMessage, Said, saying, saidOf}
 use Rattle.unit.specs.World.{World, lengthsOf, Outcome, outcome, withMessage, heldOf}
@@ -255,6 +255,38 @@ module _ (u : Unit) (message : List ℕ) (calls : List Call) (c : Call) (low : u
       ∙ ap (λ (o : Reception). comesTo (withReceiver u (o .receiver)) (o .heard) (lentTo (o .message) d)) (ap (λ (n : ℕ). receiveOf messageSize (u .receiver) n message) e)
       ∙ quiet (lentTo message d) idle
 
+  -- what comes after any FEND comes after the one that is sent before it too, where nothing is open
+  with-its-FEND : Idle (u .receiver) → (body : List ℕ) → bytesOf calls ≡ fend ∷ body → (x : Outcome)
+      → ((part : List Call) → AllSuit (u .address) (u .«fram_len») (length message) part → bytesOf part ≡ body
+      → fedOf (withReceiver u opened) message part c ≡ delivering (length part) x)
+      → fedOf u message calls c ≡ delivering (length calls) x
+  with-its-FEND idle body is x after = by calls all is
+    where
+      by : (part : List Call) → AllSuit (u .address) (u .«fram_len») (length message) part → bytesOf part ≡ fend ∷ body → fedOf u message part c ≡ delivering (length part) x
+      by [] suit e = let z : suc (length body) ≡ 0 = sym (ap length e) in absurd (omega arith)
+      by (d ∷ part) suit e =
+          ap (λ o. answering (o .answer) (fedOf (o .unit) (o .world .message) part c)) (opening idle d (suit .0) (ap (λ l. getD l 0 0) e))
+          ∙ ap (answering Taken) (after part (suit .1) (ap (drop 1) e))
+
+  -- A message of more than 1,033 bytes, whatever it says, is dropped for its length. Its first 1,033 bytes stand in the message buffer.
+  module _ (m : List ℕ) (long : messageSize < length m) where
+    abbrev droppedThere : Outcome
+    droppedThere = servedOf (withReceiver u opened) (dropped Oversize 2) (lentTo (take messageSize m ++ drop messageSize message) c)
+
+    pub a-packed-message-too-long-is-dropped : Idle (u .receiver) → bytesOf calls ≡ fend ∷ bodyOf m → fedOf u message calls c ≡ delivering (length calls) droppedThere
+    unfolding verdictOf runOf
+    a-packed-message-too-long-is-dropped idle is =
+        let unpacks = a-body-unpacks-to-its-message m in
+        let kept : keptOf messageSize (bodyOf m) ≡ take messageSize m = ap (λ (p : Unpacked). take messageSize (p .bytes)) unpacks in
+        let size : length (take messageSize m) ≡ messageSize = length-take-le messageSize m (omega arith) in
+        let counted : min (length m) (messageSize + 1) ≡ 1034 = omega arith in
+        let heard-so : heardOf messageSize (bodyOf m) ≡ heard.Message 1034 = sound-at-the-close messageSize (bodyOf m) m unpacks (omega arith) ∙ ap heard.Message counted in
+        let laid : keptOf messageSize (bodyOf m) ++ drop (length (keptOf messageSize (bodyOf m))) message ≡ take messageSize m ++ drop messageSize message
+        = ap (λ l. l ++ drop (length l) message) kept ∙ ap (λ (n : ℕ). take messageSize m ++ drop n message) size in
+        with-its-FEND idle (bodyOf m) is droppedThere
+        (λ part suit body. any-run-is-judged-as-it-unpacks u message part c (bodyOf m) body ends suit last (a-body-has-no-FEND m)
+        ∙ ap₂ (λ h l. delivering (length part) (comesTo (withReceiver u opened) h (lentTo l c))) heard-so laid)
+
   -- Any message, sound or not, of 5 to 1,033 bytes (of one byte or more, in fact).
   module _ (m : List ℕ) (some : 0 < length m) (within : length m ≤ messageSize) where
     abbrev judgedThere : Outcome
@@ -270,13 +302,8 @@ module _ (u : Unit) (message : List ℕ) (calls : List Call) (c : Call) (low : u
 
     -- The same with both its FENDs, to a unit that is fresh or has nothing open.
     pub a-packed-message-is-judged : Idle (u .receiver) → bytesOf calls ≡ fend ∷ bodyOf m → fedOf u message calls c ≡ delivering (length calls) judgedThere
-    a-packed-message-is-judged idle = by calls all
-      where
-        by : (part : List Call) → AllSuit (u .address) (u .«fram_len») (length message) part → bytesOf part ≡ fend ∷ bodyOf m → fedOf u message part c ≡ delivering (length part) judgedThere
-        by [] suit is = let z : suc (length (bodyOf m)) ≡ 0 = sym (ap length is) in absurd (omega arith)
-        by (d ∷ part) suit is =
-            ap (λ o. answering (o .answer) (fedOf (o .unit) (o .world .message) part c)) (opening idle d (suit .0) (ap (λ l. getD l 0 0) is))
-            ∙ ap (answering Taken) (body-judged u message part c (bodyOf m) (ap (drop 1) is) ends (suit .1) last m refl some within)
+    a-packed-message-is-judged idle is =
+        with-its-FEND idle (bodyOf m) is judgedThere (λ part suit body. body-judged u message part c (bodyOf m) body ends suit last m refl some within)
 
     -- And it stands at the start of the message buffer byte for byte, the rest of which is as it was.
     pub a-packed-message-stands-in-the-buffer : Idle (u .receiver) → bytesOf calls ≡ fend ∷ bodyOf m → fedOf u message calls c .last .world .message ≡ m ++ drop (length m) message
@@ -328,7 +355,7 @@ module _ (u : Unit) (destination source control : ℕ) (field : List ℕ) (w : W
   what-is-sent-is-the-packed-answer unfitted answers = absurd (answers refl)
 
 -- an answer's message is never too long for a receiver
-sealed-size : (a b c : ℕ) (l : List ℕ) → length (sealed (a ∷ b ∷ c ∷ l)) ≡ length l + 5
+pub sealed-size : (a b c : ℕ) (l : List ℕ) → length (sealed (a ∷ b ∷ c ∷ l)) ≡ length l + 5
 unfolding sealed
 sealed-size a b c l = length-append (a ∷ b ∷ c ∷ l) (bytes16 (sumOf (a ∷ b ∷ c ∷ l))) ∙ (omega arith)
 

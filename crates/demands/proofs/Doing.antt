@@ -28,7 +28,8 @@ use Rattle.fram_commands.proofs.Ways.{poke-inside}
 use Rattle.file_commands.specs.ReadFile.{filesShown}
 use Rattle.file_commands.specs.WriteFile.{listed, filesOf, filesStored, writeFileOf}
 use Rattle.file_commands.specs.Storing.{ofFiles}
-use Rattle.file_commands.proofs.Storing.{a-whole-list-is-written, a-byte-of-no-file-stays}
+use Rattle.file_commands.proofs.Judging.{so-it-is-fit, a-fit-list-is-written}
+use Rattle.file_commands.proofs.Storing.{a-byte-of-no-file-stays}
 use Rattle.edac_commands.specs.WriteEdac.{writeEdacOf}
 use Rattle.edac_commands.proofs.Ways.{edac-write-inside}
 use Rattle.command.proofs.Codes.{in-either-mode, in-application}
@@ -136,7 +137,8 @@ module _ (u : Unit) (message : List ℕ) (source control : ℕ) (list : List ℕ
   files-came =
       in-application longestData firstOfFram (codeOf control) (c .lent .diagnostics) (heldOf u (c .lent)) list 0x08
       (onEdac (heldOf u (c .lent)) (writeFileOf longestData (c .lent .edac) list)) code mode refl
-      ∙ ap (onEdac (heldOf u (c .lent))) (a-whole-list-is-written longestData (c .lent .edac) list some (sends .short) whole)
+      ∙ ap (onEdac (heldOf u (c .lent))) (a-fit-list-is-written longestData (c .lent .edac) list
+      (so-it-is-fit longestData list (record { least = omega arith; most = omega arith; some = some; short = sends .short; whole = whole })))
 
   files-left : (numberOf (leftBy u message calls c .answer) ≡ doneAnswer control) × (leftBy u message calls c .world .edac ≡ filed)
       × (leftBy u message calls c .world .fram ≡ c .lent .fram)

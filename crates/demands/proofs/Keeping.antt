@@ -1,4 +1,4 @@
--- 02, T-02: no bytes on the line change a read-only byte of EDAC memory. Assumes nothing.
+-- 02, T-02: no bytes on the line change a read-only byte of EDAC memory, nor does storing a list (T-11). Assumes nothing.
 use mathlib.Core.Path.{_≡_, refl, sym, subst}
 use mathlib.Core.List.{List, [], _∷_}
 use Prim.Native.Nat.{ℕ, _-_}
@@ -8,8 +8,7 @@ use lib.ListN.{length, drop}
 use Rattle.line.specs.Packing.{messageSize}
 use Rattle.line.specs.Receiver.{receiveOf}
 use Rattle.field.specs.Fields.{word16At}
-use Rattle.field.specs.Reading.{isWhole}
-use Rattle.memory.specs.Edac.{insideEdac}
+use Rattle.memory.specs.Edac.{edacSize, insideEdac}
 use Rattle.read_only.specs.ReadOnly.{KeepsReadOnly}
 use Rattle.read_only.proofs.Keeping.{kept-at-first, also-kept, a-write-keeps-read-only-bytes}
 use Rattle.carrying.specs.Ending.{longestData, Ending, done, refused, unfitted}
@@ -19,7 +18,7 @@ use Rattle.fram_commands.specs.Peek.{peekOf}
 use Rattle.fram_commands.specs.Poke.{pokeOf}
 use Rattle.fram_commands.specs.Crc.{crcOf}
 use Rattle.file_commands.specs.ReadFile.{readFileOf}
-use Rattle.file_commands.specs.WriteFile.{listed, writeFileOf}
+use Rattle.file_commands.specs.WriteFile.{listed, judgeListOf, Storage, storeListOf, writeFileOf}
 use Rattle.file_commands.proofs.Storing.{files-keep-read-only-bytes}
 use Rattle.edac_commands.specs.ReadEdac.{readEdacOf}
 use Rattle.edac_commands.specs.WriteEdac.{writeEdacOf}
@@ -37,7 +36,7 @@ use Rattle.judging.specs.Judging.{withReceiver}
 use Rattle.replying.specs.Replies.{codeOf}
 use Rattle.unit.specs.World.{World, lengthsOf, Outcome, withMessage, heldOf}
 use Rattle.unit.specs.Steps.{setUpAs, setUpOf, firstOfFram, answered, stepOf}
-use Rattle.demands.specs.Keeping.{LineCall, setting-up, stepping, onThis, edacLeft}
+use Rattle.demands.specs.Keeping.{LineCall, setting-up, stepping, storing, onThis, edacLeft}
 use Rattle.demands.proofs.Cases.{of-any-call}
 use Rattle.demands.proofs.DemandThree.{Keeps, keeps-inside}
 
@@ -55,10 +54,7 @@ write-edac-keeps room edac field =
 write-file-keeps : (room : ℕ) (edac field : List ℕ) → Keeps (KeepsReadOnly edac) (writeFileOf room edac field)
 unfolding writeFileOf
 write-file-keeps room edac field =
-    either-way (Keeps (KeepsReadOnly edac)) (eqb (length field) 0) _ _ (λ _. omega arith)
-    (λ _. either-way (Keeps (KeepsReadOnly edac)) (ltb room (length field)) _ _ (λ _. omega arith)
-    (λ _. either-way (Keeps (KeepsReadOnly edac)) (isWhole (listed field)) _ _
-    (λ _. files-keep-read-only-bytes edac (listed field)) (λ _. omega arith)))
+    either-way (Keeps (KeepsReadOnly edac)) (judgeListOf room field) _ _ (λ _. files-keep-read-only-bytes edac (listed field)) (λ _. omega arith)
 
 -- and any other leaves it as it is
 keeps-all : {M : Type 0} (edac : List ℕ) (f : M → Held) → ((m : M) → f m .edac ≡ edac) → (o : Ending M) → Keeps (λ h. KeepsReadOnly edac (h .edac)) (inside f o)
@@ -129,6 +125,14 @@ a-step-keeps-read-only-bytes u byte w =
           (command-keeps longestData firstOfFram (codeOf control) (w .diagnostics) (heldOf next lent) field);
     })
 
+-- storing a list, fit or not, in memory of any length
+pub storing-keeps-read-only-bytes : (limit : ℕ) (edac list : List ℕ) → KeepsReadOnly edac (storeListOf limit edac list .edac)
+unfolding storeListOf
+storing-keeps-read-only-bytes limit edac list =
+    either-way (λ (s : Storage). KeepsReadOnly edac (s .edac)) (eqb (length edac) edacSize) _ _
+    (λ _. either-way (λ (s : Storage). KeepsReadOnly edac (s .edac)) (judgeListOf limit list) _ _ (λ _. files-keep-read-only-bytes edac (listed list)) (λ _. kept-at-first edac))
+    (λ _. kept-at-first edac)
+
 -- a set-up leaves EDAC memory as it is
 pub a-set-up-keeps-edac : (address : ℕ) (w : World) → setUpOf address w .world .edac ≡ w .edac
 unfolding setUpOf
@@ -140,9 +144,9 @@ a-set-up-keeps-edac address w = apart (setUpFit address (lengthsOf w))
 
 -- ---- any calls
 
--- T-02. Let nothing but calls of `set_up` and `step` change EDAC memory, on whatever units, with whatever bytes and whatever else they
--- lend, of any length, refused or not. After any of them it is as long as it was, and each of its read-only bytes has the value that it
--- had.
+-- T-02, and T-11's any order of calls. Let nothing but calls of `set_up`, `step` and `store_list` change EDAC memory, on whatever units, with
+-- whatever bytes, lists and whatever else they lend, of any length, refused or not, in any order, judged before or not. After any of them it is as
+-- long as it was, and each of its read-only bytes has the value that it had.
 pub no-bytes-change-a-read-only-byte : (edac : List ℕ) (calls : List LineCall) → KeepsReadOnly edac (edacLeft edac calls)
 no-bytes-change-a-read-only-byte edac [] = kept-at-first edac
 no-bytes-change-a-read-only-byte edac (setting-up address w ∷ calls) =
@@ -151,3 +155,5 @@ no-bytes-change-a-read-only-byte edac (setting-up address w ∷ calls) =
 no-bytes-change-a-read-only-byte edac (stepping u c ∷ calls) =
     also-kept (a-step-keeps-read-only-bytes u (c .byte) (onThis edac (c .lent)))
     (no-bytes-change-a-read-only-byte (stepOf u (c .byte) (onThis edac (c .lent)) .world .edac) calls)
+no-bytes-change-a-read-only-byte edac (storing limit list ∷ calls) =
+    also-kept (storing-keeps-read-only-bytes limit edac list) (no-bytes-change-a-read-only-byte (storeListOf limit edac list .edac) calls)

@@ -6,5 +6,6 @@ pub mod DemandThree
 pub mod Keeping
 pub mod Storing
 pub mod Doing
+pub mod Asking
 pub mod Worked
 pub mod Settled

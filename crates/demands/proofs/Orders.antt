@@ -54,7 +54,7 @@ module _ (u : Unit) (message : List ℕ) (source control : ℕ) (field : List �
       ∙ ap (λ t. delivering (length calls) (cond t (orderedOf (withReceiver u opened) (u .address) source control field laid) (outcome (withReceiver u opened) Elsewhere laid)))
       (eq-eqb (u .address) (u .address) refl)
 
-  what-a-sent-command-leaves : leftBy u message calls c ≡ answered (withReceiver u opened) (u .address) source control field (cameTo u c control field) laid
+  pub what-a-sent-command-leaves : leftBy u message calls c ≡ answered (withReceiver u opened) (u .address) source control field (cameTo u c control field) laid
   what-a-sent-command-leaves = ap (λ (f : Fed). f .last) a-sent-command-is-carried-out
 
   -- Of a command that is done the bytes sent are the packed reply with the reply's data, where poll is set.

@@ -13,7 +13,7 @@ use Rattle.memory.specs.Edac.{bodySize, fileShown}
 use Rattle.read_only.specs.Files.{fileStored}
 use Rattle.blocks.specs.Fram.{freshSums, freshFrom}
 use Rattle.file_commands.specs.ReadFile.{filesShown, filesWidth, readFileOf}
-use Rattle.file_commands.specs.WriteFile.{writeFileOf}
+use Rattle.file_commands.specs.WriteFile.{judgeListOf, writeFileOf}
 use Rattle.edac_commands.specs.WriteEdac.{writeEdacOf}
 use Rattle.command.specs.Diagnostic.{allChannels, channelsShown, diagnosticOf}
 use Rattle.command.specs.Init.{initOf}
@@ -25,7 +25,7 @@ use Rattle.unit.specs.Steps.{setUpOf, answered, commandedOf, servedOf, stepOf}
 use Rattle.demands.specs.Worked.{WorkedExamples}
 
 pub the-worked-examples-hold : WorkedExamples
-unfolding stepOf setUpOf setUpFit stepFit lengthsFit freshSums freshFrom judgeOf receivedOf receiveOf insideOf afterEscapeOf closedOf storedOf countedOf verdictOf runOf servedOf countedUp commandedOf answered saidOf saying sealed replyMessage commandOf initOf escapedOf begun sumOf sumFrom byteStep bitSteps bitStep readFileOf filesShown filesWidth fileShown bodySize writeFileOf writeEdacOf listedFrom fileStored written keeping readOnly stored diagnosticOf allChannels channelsShown
+unfolding stepOf setUpOf setUpFit stepFit lengthsFit freshSums freshFrom judgeOf receivedOf receiveOf insideOf afterEscapeOf closedOf storedOf countedOf verdictOf runOf servedOf countedUp commandedOf answered saidOf saying sealed replyMessage commandOf initOf escapedOf begun sumOf sumFrom byteStep bitSteps bitStep readFileOf filesShown filesWidth fileShown bodySize judgeListOf writeFileOf writeEdacOf listedFrom fileStored written keeping readOnly stored diagnosticOf allChannels channelsShown
 the-worked-examples-hold = record {
   P1 = sum.P1;
   P2 = sum.P2;

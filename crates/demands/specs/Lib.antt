@@ -2,4 +2,5 @@ pub mod Leaving
 pub mod Calls
 pub mod Orders
 pub mod Keeping
+pub mod Asking
 pub mod Worked

@@ -18,17 +18,21 @@ use Rattle.unit.specs.World.{World, world, Outcome, heldOf}
 use Rattle.unit.specs.Steps.{firstOfFram}
 use Rattle.demands.specs.Calls.{Call, lentTo, fedOf, bytesOf, Suits, AllSuit, Idle, Bytes}
 
--- A command for this unit: sealed with its CRC, packed, and sent with both its FENDs, the last of them by the call `c`, to a unit that
--- has nothing open, by calls that are served.
-pub record Sends (u : Unit) (message : List ℕ) (source control : ℕ) (field : List ℕ) (calls : List Call) (c : Call) : Type 0 where
+-- A command for this unit, with data of at most `most` bytes: sealed with its CRC, packed, and sent with both its FENDs, the last of them by the call
+-- `c`, to a unit that has nothing open, by calls that are served.
+pub record SendsUpTo (most : ℕ) (u : Unit) (message : List ℕ) (source control : ℕ) (field : List ℕ) (calls : List Call) (c : Call) : Type 0 where
   pub low : u .receiver .count ≤ largestCount
   pub idle : Idle (u .receiver)
   pub bytes : Bytes (u .address ∷ source ∷ control ∷ field)
-  pub short : length field ≤ longestData
+  pub short : length field ≤ most
   pub packed : bytesOf calls ≡ fend ∷ bodyOf (sealed (u .address ∷ source ∷ control ∷ field))
   pub ends : c .byte ≡ fend
   pub suiting : AllSuit (u .address) (u .«fram_len») (length message) calls
   pub suits : Suits (u .address) (u .«fram_len») (length message) c
+
+-- One with data of legal length.
+abbrev pub Sends : Unit → List ℕ → ℕ → ℕ → List ℕ → List Call → Call → Type 0
+Sends u message source control field calls c = SendsUpTo longestData u message source control field calls c
 
 -- What the last of these calls lends, with the command in the message buffer.
 abbrev pub withItsMessage : Unit → List ℕ → ℕ → ℕ → List ℕ → Call → World
@@ -45,6 +49,10 @@ sentBy o = take (sentOf (o .answer)) (o .world .reply)
 -- The answer to a command that is done: 1 with poll set, 2 with poll clear.
 abbrev pub doneAnswer : ℕ → ℕ
 doneAnswer control = cond (polls control) 1 2
+
+-- The answer to one that is refused: 3 with poll set, 4 with poll clear.
+abbrev pub refusedAnswer : ℕ → ℕ
+refusedAnswer control = cond (polls control) 3 4
 
 -- What a command comes to on what a call lends.
 abbrev pub cameTo : Unit → Call → ℕ → List ℕ → Ending Held

@@ -13,8 +13,9 @@ use Rattle.field.proofs.Lists.{by-structures, list-ends}
 use Rattle.carrying.specs.Ending.{done, refused}
 use Rattle.carrying.proofs.Room.{either-way, Roomy, part}
 use Rattle.file_commands.specs.ReadFile.{filesShown, filesWidth, readFileOf}
-use Rattle.file_commands.specs.WriteFile.{listed, filesOf, filesStored, writeFileOf}
+use Rattle.file_commands.specs.WriteFile.{listed, filesOf, filesStored, judgeListOf, writeFileOf}
 use Rattle.file_commands.proofs.Lists.{at-least-one, listed-turn}
+use Rattle.file_commands.proofs.Judging.{Fit, what-is-fit}
 
 file-shown : (edac : List ℕ) (file : ℕ) → length (fileShown edac file) ≤ shownSize file
 unfolding fileShown bodySize
@@ -54,14 +55,10 @@ module _ (room : ℕ) (edac field : List ℕ) where
   pub write-file-fits : Roomy room (writeFileOf room edac field)
   unfolding writeFileOf
   write-file-fits =
-      either-way (Roomy room) (eqb (length field) 0) refused _ (λ _. omega arith)
-      (λ _. either-way (Roomy room) (ltb room (length field)) refused _ (λ _. omega arith)
-      (λ e. either-way (Roomy room) (isWhole (listed field))
-      (done (filesShown (filesStored edac (listed field)) (filesOf (listed field))) (filesStored edac (listed field))) refused
-      (shown (ltb-false room (length field) e)) (λ _. omega arith)))
+      either-way (Roomy room) (judgeListOf room field) _ refused (λ e. shown (what-is-fit room field e)) (λ _. omega arith)
     where
-      shown : length field ≤ room → isWhole (listed field) ≡ true → length (filesShown (filesStored edac (listed field)) (filesOf (listed field))) ≤ room
-      shown h all =
+      shown : Fit room field → length (filesShown (filesStored edac (listed field)) (filesOf (listed field))) ≤ room
+      shown fit =
           let here = files-shown (filesStored edac (listed field)) (filesOf (listed field)) in
-          let width = listed-width field all in
-          omega arith
+          let width = listed-width field (fit .whole) in
+          omega (arith, fit .short)

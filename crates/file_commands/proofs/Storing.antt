@@ -22,45 +22,30 @@ use Rattle.carrying.specs.Ending.{done, refused}
 use Rattle.carrying.specs.Storing.{withData}
 use Rattle.carrying.proofs.Storing.{either-way-alike}
 use Rattle.file_commands.specs.ReadFile.{filesShown, filesWidth, readFileOf}
-use Rattle.file_commands.specs.WriteFile.{listed, filesOf, filesStored, writeFileOf}
+use Rattle.file_commands.specs.WriteFile.{listed, filesOf, filesStored, judgeListOf, writeFileOf}
 use Rattle.file_commands.specs.Storing.{lastBody, filesAfter, ofFiles}
 use Rattle.file_commands.proofs.Lists.{at-least-one, listed-turn}
+use Rattle.file_commands.proofs.Judging.{Fit, what-is-fit, a-fit-list-is-written, an-unfit-list-is-refused}
 use Rattle.file_commands.proofs.Room.{listed-width}
-
--- A list that is not empty, ends between two structures and whose reply has room is done, whatever files it names.
-pub a-whole-list-is-written : (room : ℕ) (edac field : List ℕ) → 0 < length field → length field ≤ room → isWhole (listed field) ≡ true
-    → writeFileOf room edac field ≡ done (filesShown (filesStored edac (listed field)) (filesOf (listed field))) (filesStored edac (listed field))
-unfolding writeFileOf
-a-whole-list-is-written room edac field some fits whole = simp (ne-eqb (length field) 0 (λ e. omega arith), le-ltb room (length field) fits, whole)
 
 -- what is known of a WRITE FILE that was done
 pub record FilesWritten (room : ℕ) (edac field reply after : List ℕ) : Type 0 where
-  pub some : 0 < length field
-  pub fits : length field ≤ room
-  pub whole : isWhole (listed field) ≡ true
+  pub fit : Fit room field
   pub shows : filesShown (filesStored edac (listed field)) (filesOf (listed field)) ≡ reply
   pub stores : filesStored edac (listed field) ≡ after
 
 pub a-WRITE-FILE-that-was-done : (room : ℕ) (edac field reply after : List ℕ) → writeFileOf room edac field ≡ done reply after → FilesWritten room edac field reply after
-unfolding writeFileOf
-a-WRITE-FILE-that-was-done room edac field reply after e =
-    apart (eqb (length field) 0) (ltb room (length field)) (isWhole (listed field)) refl refl refl e
+a-WRITE-FILE-that-was-done room edac field reply after e = apart (judgeListOf room field) refl
   where
-    apart : (none long whole : Bool) → eqb (length field) 0 ≡ none → ltb room (length field) ≡ long → isWhole (listed field) ≡ whole
-        → cond none refused (cond long refused (cond whole
-        (done (filesShown (filesStored edac (listed field)) (filesOf (listed field))) (filesStored edac (listed field))) refused))
-        ≡ done reply after
-        → FilesWritten room edac field reply after
-    apart true long whole en el ew came = let z : _≡_ {A = ℕ} 0 1 = cc in absurd (omega arith)
-    apart false true whole en el ew came = let z : _≡_ {A = ℕ} 0 1 = cc in absurd (omega arith)
-    apart false false false en el ew came = let z : _≡_ {A = ℕ} 0 1 = cc in absurd (omega arith)
-    apart false false true en el ew came = record {
-      some = let n = eqb-false (length field) 0 en in either-side (length field) 0 (λ none. absurd (n (omega arith))) (λ some. some);
-      fits = ltb-false room (length field) el;
-      whole = ew;
-      shows = cc;
-      stores = cc;
-    }
+    apart : (b : Bool) → judgeListOf room field ≡ b → FilesWritten room edac field reply after
+    apart true fit =
+        let came : done (filesShown (filesStored edac (listed field)) (filesOf (listed field))) (filesStored edac (listed field)) ≡ done reply after
+        = sym (a-fit-list-is-written room edac field fit) ∙ e in
+        record { fit = what-is-fit room field fit; shows = cc; stores = cc }
+    apart false unfit =
+        let came : refused ≡ done reply after = sym (an-unfit-list-is-refused room edac field unfit) ∙ e in
+        let z : _≡_ {A = ℕ} 0 1 = cc in
+        absurd (omega arith)
 
 -- ---- no list changes a read-only byte
 
@@ -151,7 +136,7 @@ module _ (room : ℕ) (edac field reply after : List ℕ) (size : length edac �
   files-alike [] small = refl
   files-alike (file ∷ files) small =
       ap₂ (λ shown others. shown ++ others)
-      (ap (λ l. fileShown l file) (sym (written .stores)) ∙ each-file-after field bytes (written .whole) edac size file (small 0))
+      (ap (λ l. fileShown l file) (sym (written .stores)) ∙ each-file-after field bytes (written .fit .whole) edac size file (small 0))
       (files-alike files (λ i. small (suc i)))
 
   -- Any READ FILE comes to what it came to before, with the body written last for each writable file that was written.
@@ -172,9 +157,9 @@ module _ (room : ℕ) (edac field reply after : List ℕ) (size : length edac �
   pub what-was-written-is-read-back : readFileOf room after (filesOf (listed field)) ≡ done reply tt
   unfolding readFileOf
   what-was-written-is-read-back =
-      let width = listed-width field (written .whole) in
+      let width = listed-width field (written .fit .whole) in
       simp (
-        none-but-none (filesOf (listed field)) (omega (arith, written .some)),
-        le-ltb room (filesWidth (filesOf (listed field))) (omega (arith, written .fits)),
+        none-but-none (filesOf (listed field)) (omega (arith, written .fit .some)),
+        le-ltb room (filesWidth (filesOf (listed field))) (omega (arith, written .fit .short)),
       )
       (ap (λ l. done l tt) (ap (λ l. filesShown l (filesOf (listed field))) (sym (written .stores)) ∙ written .shows))

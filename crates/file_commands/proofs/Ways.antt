@@ -4,16 +4,20 @@ use mathlib.Core.Bool.{Bool, true, false}
 use mathlib.Core.List.{List}
 use Prim.Native.Nat.{ℕ, _-_, _≤_, _<_}
 use native.Mathlib.Omega.{arith}
-use borrow.Author.Tests.{lt-ltb, le-ltb, leb-true, leb-false, eq-eqb, ne-eqb}
+use borrow.Author.Tests.{lt-ltb, le-ltb, le-leb, leb-true, leb-false, eq-eqb, ne-eqb}
 use lib.Dec.{leb}
 use lib.ListN.{length, drop, length-drop}
 use Rattle.memory.specs.Bytes.{begun}
+use Rattle.memory.specs.Edac.{edacSize}
 use Rattle.field.specs.Reading.{isWhole}
 use Rattle.carrying.specs.declared.Ended.the-variants.{Done, Refused}
-use Rattle.carrying.specs.Ending.{left, leaves}
+use Rattle.carrying.specs.Ending.{longestData, leastLimit, left, leaves}
 use Rattle.carrying.proofs.Writing.{is-done, is-done-storing, is-refused}
 use Rattle.file_commands.specs.ReadFile.{filesShown, filesWidth, readFileOf}
-use Rattle.file_commands.specs.WriteFile.{listed, filesOf, filesStored, writeFileOf}
+use Rattle.file_commands.specs.declared.write_file.Storing.{Storing}
+use Rattle.file_commands.specs.declared.write_file.Storing.the-variants.{Stored, Unfit, BadEdac}
+use Rattle.file_commands.specs.WriteFile.{listed, filesOf, filesStored, judgeListOf, storage, storageOf, storeListOf, writeFileOf}
+use Rattle.file_commands.proofs.Judging.{what-is-fit, unfit, wrong-EDAC-memory-is-left, a-fit-list-is-stored, an-unfit-list-is-not-stored, said-to-be-stored, said-to-be-unfit, never-said-to-be-wrong, a-fit-list-is-written, an-unfit-list-is-refused}
 
 module _ (room : ℕ) (edac field reply : List ℕ) (at : ℕ) where
   nothing-left : length field ≤ at → length (drop at field) ≡ 0
@@ -47,35 +51,77 @@ module _ (room : ℕ) (edac field reply : List ℕ) (at : ℕ) where
         (simp (ne-eqb (length (drop at field)) 0 (some-left inside), le-ltb room (filesWidth (drop at field)) (leb-true (filesWidth (drop at field)) room (sym judged ∙ fits))))
         (sym (shown .0)) (shown .1)
 
-  -- ---- WRITE FILE
+-- ---- WRITE FILE
 
-  pub nothing-to-write : length field ≤ at → left Refused reply edac ≡ leaves (writeFileOf room edac (drop at field)) reply edac
-  unfolding writeFileOf
-  nothing-to-write end = is-refused (writeFileOf room edac (drop at field)) reply edac (simp (eq-eqb (length (drop at field)) 0 (nothing-left end)))
+-- what is left of a list, by its own length
+module _ (limit : ℕ) (list : List ℕ) (start : ℕ) where
+  pub a-limit-too-low : limit < leastLimit → false ≡ judgeListOf limit (drop start list)
+  a-limit-too-low low = sym (unfit limit (drop start list) (λ fit. let least = fit .least in omega arith))
 
-  pub files-to-write-without-room : at < length field → room < length field - at → left Refused reply edac ≡ leaves (writeFileOf room edac (drop at field)) reply edac
-  unfolding writeFileOf
-  files-to-write-without-room inside lacks =
+  pub a-limit-too-high : longestData < limit → false ≡ judgeListOf limit (drop start list)
+  a-limit-too-high high = sym (unfit limit (drop start list) (λ fit. let most = fit .most in omega arith))
+
+  pub an-empty-list : length list ≤ start → false ≡ judgeListOf limit (drop start list)
+  an-empty-list end =
+      let rest = length-drop start list in
+      sym (unfit limit (drop start list) (λ fit. let some = fit .some in omega arith))
+
+  pub a-list-too-long : limit < length list - start → false ≡ judgeListOf limit (drop start list)
+  a-list-too-long long =
+      let rest = length-drop start list in
+      sym (unfit limit (drop start list) (λ fit. let short = fit .short in omega arith))
+
+  pub a-list-of-some-length : leastLimit ≤ limit → limit ≤ longestData → start < length list → length list - start ≤ limit → (answer : Bool)
+      → answer ≡ isWhole (listed (drop start list)) → answer ≡ judgeListOf limit (drop start list)
+  unfolding judgeListOf
+  a-list-of-some-length least most some short answer judged =
+      let rest = length-drop start list in
+      simp (
+        le-leb leastLimit limit least,
+        le-leb limit longestData most,
+        lt-ltb 0 (length (drop start list)) (omega arith),
+        le-leb (length (drop start list)) limit (omega arith),
+      ) judged
+
+module _ (limit : ℕ) (edac list : List ℕ) (start : ℕ) where
+  pub to-wrong-EDAC-memory : (length edac ≡ edacSize → ⊥) → storageOf BadEdac edac ≡ storeListOf limit edac (drop start list)
+  to-wrong-EDAC-memory wrong = sym (wrong-EDAC-memory-is-left limit edac (drop start list) wrong)
+
+  module _ (size : length edac ≡ edacSize) (answer : Bool) (judged : answer ≡ judgeListOf limit (drop start list)) where
+    pub a-fit-list : (after : List ℕ) → answer ≡ true → after ≡ filesStored edac (listed (drop start list))
+        → storageOf Stored after ≡ storeListOf limit edac (drop start list)
+    a-fit-list after fit stores = ap (storage 0) stores ∙ sym (a-fit-list-is-stored limit edac (drop start list) size (sym judged ∙ fit))
+
+    pub an-unfit-list : answer ≡ false → storageOf Unfit edac ≡ storeListOf limit edac (drop start list)
+    an-unfit-list cut = sym (an-unfit-list-is-not-stored limit edac (drop start list) size (sym judged ∙ cut))
+
+-- the command, by what storing answered
+module _ (room : ℕ) (edac field reply : List ℕ) (at : ℕ) (size : length edac ≡ edacSize) (storing : Storing) (memory : List ℕ)
+    (said : storageOf storing memory ≡ storeListOf room edac (drop at field)) where
+  told : (is : Storing) → storing ≡ is → storageOf is memory ≡ storeListOf room edac (drop at field)
+  told is e = ap (λ s. storageOf s memory) (sym e) ∙ said
+
+  pub room-for-the-list : storing ≡ Stored → room ≤ length reply → length field - at ≤ length reply
+  room-for-the-list is roomy =
       let rest = length-drop at field in
-      is-refused (writeFileOf room edac (drop at field)) reply edac
-      (simp (ne-eqb (length (drop at field)) 0 (some-left inside), lt-ltb room (length (drop at field)) (omega arith)))
+      let fit = what-is-fit room (drop at field) (said-to-be-stored room edac (drop at field) size memory (told Stored is) .0) in
+      omega (arith, fit .short)
 
-  module _ (inside : at < length field) (fits : length field - at ≤ room) (answer : Bool) (judged : answer ≡ isWhole (listed (drop at field))) where
-    pub a-cut-list-is-not-written : answer ≡ false → left Refused reply edac ≡ leaves (writeFileOf room edac (drop at field)) reply edac
-    unfolding writeFileOf
-    a-cut-list-is-not-written cut =
-        let rest = length-drop at field in
-        is-refused (writeFileOf room edac (drop at field)) reply edac
-        (simp (ne-eqb (length (drop at field)) 0 (some-left inside), le-ltb room (length (drop at field)) (omega arith), sym judged ∙ cut))
+  pub files-are-written : storing ≡ Stored → (n : ℕ) (buffer : List ℕ)
+      → (n ≡ length (filesShown memory (filesOf (listed (drop at field))))) × (buffer ≡ begun reply (filesShown memory (filesOf (listed (drop at field)))))
+      → left (Done n) buffer memory ≡ leaves (writeFileOf room edac (drop at field)) reply edac
+  files-are-written is n buffer shown =
+      let so = said-to-be-stored room edac (drop at field) size memory (told Stored is) in
+      is-done-storing (writeFileOf room edac (drop at field)) _ buffer reply n memory _ edac
+      (a-fit-list-is-written room edac (drop at field) (so .0))
+      (so .1)
+      (sym (shown .0 ∙ ap (λ l. length (filesShown l (filesOf (listed (drop at field))))) (so .1)))
+      (shown .1 ∙ ap (λ l. begun reply (filesShown l (filesOf (listed (drop at field))))) (so .1))
 
-    pub files-are-written : (n : ℕ) (buffer memory : List ℕ) → answer ≡ true → memory ≡ filesStored edac (listed (drop at field))
-        → (n ≡ length (filesShown memory (filesOf (listed (drop at field))))) × (buffer ≡ begun reply (filesShown memory (filesOf (listed (drop at field)))))
-        → left (Done n) buffer memory ≡ leaves (writeFileOf room edac (drop at field)) reply edac
-    unfolding writeFileOf
-    files-are-written n buffer memory whole stores shown =
-        let rest = length-drop at field in
-        is-done-storing (writeFileOf room edac (drop at field)) _ buffer reply n memory _ edac
-        (simp (ne-eqb (length (drop at field)) 0 (some-left inside), le-ltb room (length (drop at field)) (omega arith), sym judged ∙ whole))
-        stores
-        (sym (shown .0 ∙ ap (λ l. length (filesShown l (filesOf (listed (drop at field))))) stores))
-        (shown .1 ∙ ap (λ l. begun reply (filesShown l (filesOf (listed (drop at field))))) stores)
+  pub files-are-not-written : storing ≡ Unfit → left Refused reply memory ≡ leaves (writeFileOf room edac (drop at field)) reply edac
+  files-are-not-written is =
+      let so = said-to-be-unfit room edac (drop at field) size memory (told Unfit is) in
+      ap (left Refused reply) (so .1) ∙ is-refused (writeFileOf room edac (drop at field)) reply edac (an-unfit-list-is-refused room edac (drop at field) (so .0))
+
+  pub memory-is-never-wrong : storing ≡ BadEdac → left Refused reply memory ≡ leaves (writeFileOf room edac (drop at field)) reply edac
+  memory-is-never-wrong is = absurd (never-said-to-be-wrong room edac (drop at field) size memory (told BadEdac is))

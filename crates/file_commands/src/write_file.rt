@@ -1,8 +1,12 @@
-// WRITE FILE 0x08. The list is judged whole before anything is stored, and shown after everything is.
+// WRITE FILE 0x08, by two operations that serve without a unit too: judging a list, and storing a judged one. The list is judged whole before
+// anything is stored, and shown after everything is.
 use crate::read_file::width;
 use carrying::Ended;
+use carrying::LEAST_LIMIT;
+use carrying::LONGEST_DATA;
 use field::reader::new;
 use field::reader::past;
+use memory::edac::EDAC_SIZE;
 use memory::edac::FileAddress;
 use memory::edac::show_file;
 use read_only::store::store_file;
@@ -14,7 +18,7 @@ ghost use Rattle.memory.specs.Edac.{edacSize};
 ghost use Rattle.field.specs.Reading.{isWhole};
 ghost use Rattle.carrying.specs.Ending.{left, leaves};
 ghost use Rattle.file_commands.specs.ReadFile.{filesShown};
-ghost use Rattle.file_commands.specs.WriteFile.{listed, filesOf, filesStored, writeFileOf};
+ghost use Rattle.file_commands.specs.WriteFile.{listed, filesOf, filesStored, judgeListOf, storageOf, storeListOf, writeFileOf};
 
 // Whether a list ends between two structures.
 fn is_whole(field: &[u8], start: usize) -> bool
@@ -29,6 +33,25 @@ fn is_whole(field: &[u8], start: usize) -> bool
         at = next;
     }
     true
+}
+
+// Judges a list from a place on: whether a WRITE FILE of it is ACKed in application mode where a data field has at most `limit` bytes.
+pub fn judge_list(limit: usize, list: &[u8], start: usize) -> bool
+    ensures { λ r. ⌜ r ≡ judgeListOf limit (drop start (now (list .entry))) ⌝ }
+{
+    if limit < LEAST_LIMIT {
+        return false;
+    }
+    if LONGEST_DATA < limit {
+        return false;
+    }
+    if list.len() <= start {
+        return false;
+    }
+    if limit < list.len() - start {
+        return false;
+    }
+    is_whole(list, start)
 }
 
 // Stores each file of a list in order, up to where the list is cut.
@@ -52,6 +75,27 @@ fn store_files(edac: &mut [u8], field: &[u8], start: usize)
     }
 }
 
+// What storing a list comes to.
+pub enum Storing {
+    Stored,
+    Unfit,
+    BadEdac,
+}
+
+// Stores a list from a place on, if it is fit: it is judged here whoever judged it before, so that what is stored is what is lent now.
+pub fn store_list(limit: usize, edac: &mut [u8], list: &[u8], start: usize) -> Storing
+    ensures { λ r. ⌜ storageOf r (now (edac .exit)) ≡ storeListOf limit (now (edac .entry)) (drop start (now (list .entry))) ⌝ }
+{
+    if edac.len() != EDAC_SIZE {
+        return Storing::BadEdac;
+    }
+    if !judge_list(limit, list, start) {
+        return Storing::Unfit;
+    }
+    store_files(edac, list, start);
+    Storing::Stored
+}
+
 // Shows each file of a list, up to where the list is cut: a structure of the reply is as long as the list's. Answers the place
 // after the last.
 fn show_files(edac: &[u8], field: &[u8], start: usize, reply: &mut [u8]) -> usize
@@ -73,23 +117,18 @@ fn show_files(edac: &[u8], field: &[u8], start: usize, reply: &mut [u8]) -> usiz
     place
 }
 
-// The command on a list from a reader's place on.
+// The command on a list from a reader's place on: stored if it is fit, and then shown.
 fn write_from(room: usize, edac: &mut [u8], field: &[u8], at: usize, reply: &mut [u8]) -> Ended
     requires { ⌜ (room ≤ length (now reply)) × (length (now edac) ≡ edacSize) ⌝ }
     ensures { λ r. ⌜ left r (now (reply .exit)) (now (edac .exit))
         ≡ leaves (writeFileOf room (now (edac .entry)) (drop at (now (field .entry)))) (now (reply .entry)) (now (edac .entry)) ⌝ }
 {
-    if field.len() <= at {
-        return Ended::Refused;
+    let storing = store_list(room, edac, field, at);
+    match storing {
+        Storing::Stored => Ended::Done(show_files(edac, field, at, reply)),
+        Storing::Unfit => Ended::Refused,
+        Storing::BadEdac => Ended::Refused,
     }
-    if room < field.len() - at {
-        return Ended::Refused;
-    }
-    if is_whole(field, at) {
-        store_files(edac, field, at);
-        return Ended::Done(show_files(edac, field, at, reply));
-    }
-    Ended::Refused
 }
 
 pub fn write_file(room: usize, edac: &mut [u8], field: &[u8], reply: &mut [u8]) -> Ended

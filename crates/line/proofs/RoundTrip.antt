@@ -50,7 +50,7 @@ a-body-has-no-FEND [] = tt
 a-body-has-no-FEND (byte ∷ message) = an-escaped-byte-has-no-FEND byte (bodyOf message) (a-body-has-no-FEND message)
 
 -- a run that unpacks to bytes is a count to judge
-sound-at-the-close
+pub sound-at-the-close
     : (largest : ℕ) (run bytes : List ℕ)
     → unpackOf run ≡ record { bytes = bytes; fault = false }
     → 0 < length bytes

@@ -1,5 +1,6 @@
 // The unit: a record by value, set-up, and one byte in and one answer out.
 pub use answer::Answer;
+use carrying::LONGEST_DATA;
 use carrying::Mode;
 use judging::Lengths;
 pub use judging::Unit;
@@ -29,9 +30,7 @@ pub struct Stepped {
     pub answer: Answer,
 }
 
-// The longest data field of a message, and where it ends in a buffer for one.
-const LONGEST_DATA: usize = 1028;
-
+// Where the longest data field ends in a buffer for a message.
 const DATA_END: usize = 1031;
 
 // The address of the first byte of FRAM.

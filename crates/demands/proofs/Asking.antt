@@ -1,0 +1,180 @@
+-- 02, T-11: judging a list says yes exactly where a unit in application mode would ACK it, storing stores what the command stores, and an unfit list
+-- changes nothing. For any list of any length, and any memory. Assumes nothing.
+use mathlib.Core.Path.{_≡_, refl, sym, ap, _∙_, subst}
+use mathlib.Core.Bool.{Bool, true, false, cond}
+use mathlib.Core.Logic.{_⊎_, inl, inr}
+use mathlib.Core.List.{List, _∷_}
+use Prim.Native.Nat.{ℕ, _+_, _≤_, _<_}
+use native.Mathlib.Omega.{arith}
+use borrow.Author.Tests.{le-leb, lt-leb, leb-false, eqb-true, eqb-false}
+use lib.Dec.{eqb, leb}
+use lib.ListN.{length}
+use Rattle.line.specs.Receiver.{opened}
+use Rattle.memory.specs.Edac.{edacSize}
+use Rattle.memory.proofs.Tests.{either-side}
+use Rattle.carrying.specs.declared.Mode.the-variants.{Application}
+use Rattle.carrying.specs.Ending.{longestData, done, refused}
+use Rattle.carrying.specs.Held.{held, onEdac}
+use Rattle.carrying.proofs.Room.{either-way}
+use Rattle.blocks.specs.Fram.{kept}
+use Rattle.file_commands.specs.ReadFile.{filesShown}
+use Rattle.file_commands.specs.WriteFile.{listed, filesOf, filesStored, judgeListOf, Storage, storage, storeListOf, writeFileOf}
+use Rattle.file_commands.proofs.Judging.{what-is-fit, a-fit-list-is-written, an-unfit-list-is-refused, a-fit-list-is-stored, an-unfit-list-is-not-stored, wrong-EDAC-memory-is-left}
+use Rattle.command.proofs.Codes.{in-application}
+use Rattle.answer.specs.Answers.{numberOf}
+use Rattle.judging.specs.declared.Unit.{Unit}
+use Rattle.judging.specs.Judging.{withReceiver}
+use Rattle.replying.specs.Replies.{codeOf, polls, sealed, Said, saying, saidOf}
+use Rattle.judging.proofs.Serving.{a-served-step-fits}
+use Rattle.unit.specs.World.{World, lengthsOf, Outcome, heldOf}
+use Rattle.unit.specs.Steps.{firstOfFram, answered, servedOf}
+use Rattle.demands.specs.Calls.{Call, Fed, lentTo}
+use Rattle.demands.specs.Orders.{SendsUpTo, Sends, withItsMessage, leftBy, doneAnswer, refusedAnswer, cameTo}
+use Rattle.demands.specs.Asking.{listAnswer, StoringLeaves}
+use Rattle.demands.proofs.DemandTwo.{a-call-that-suits-fits, sealed-size, a-packed-message-too-long-is-dropped}
+use Rattle.demands.proofs.Orders.{what-a-sent-command-leaves}
+use Rattle.demands.proofs.Doing.{a-command-that-is-done-answers-so}
+
+-- ---- the command, on whatever a call lends
+
+module _ (u : Unit) (c : Call) (control : ℕ) (list : List ℕ) (code : codeOf control ≡ 0x08) (mode : u .mode ≡ Application) where
+  its-row : cameTo u c control list ≡ onEdac (heldOf u (c .lent)) (writeFileOf longestData (c .lent .edac) list)
+  its-row =
+      in-application longestData firstOfFram (codeOf control) (c .lent .diagnostics) (heldOf u (c .lent)) list 0x08
+      (onEdac (heldOf u (c .lent)) (writeFileOf longestData (c .lent .edac) list)) code mode refl
+
+  -- A list that is judged fit is done, and stored as storing stores it;
+  pub a-list-judged-fit-is-done : judgeListOf longestData list ≡ true
+      → let after = filesStored (c .lent .edac) (listed list) in
+      cameTo u c control list ≡ done (filesShown after (filesOf (listed list))) (held (u .mode) after (kept (c .lent .fram) (c .lent .sums)))
+  a-list-judged-fit-is-done fit = its-row ∙ ap (onEdac (heldOf u (c .lent))) (a-fit-list-is-written longestData (c .lent .edac) list fit)
+
+  -- any other is refused.
+  pub a-list-judged-unfit-is-refused : judgeListOf longestData list ≡ false → cameTo u c control list ≡ refused
+  a-list-judged-unfit-is-refused unfit = its-row ∙ ap (onEdac (heldOf u (c .lent))) (an-unfit-list-is-refused longestData (c .lent .edac) list unfit)
+
+-- ---- what storing leaves
+
+pub what-storing-leaves : (limit : ℕ) (edac list : List ℕ) → StoringLeaves limit edac list (storeListOf limit edac list)
+what-storing-leaves limit edac list = by (eqb (length edac) edacSize) (judgeListOf limit list) refl refl
+  where
+    by : (long fit : Bool) → eqb (length edac) edacSize ≡ long → judgeListOf limit list ≡ fit → StoringLeaves limit edac list (storeListOf limit edac list)
+    by true true el ef =
+        let size = eqb-true (length edac) edacSize el in
+        subst (StoringLeaves limit edac list) (sym (a-fit-list-is-stored limit edac list size ef)) (record {
+          stored = λ _. (size, ef, refl);
+          unfit = λ e. absurd (omega arith);
+          wrong = λ e. absurd (omega arith);
+          no-other = inl refl;
+        })
+    by true false el ef =
+        let size = eqb-true (length edac) edacSize el in
+        subst (StoringLeaves limit edac list) (sym (an-unfit-list-is-not-stored limit edac list size ef)) (record {
+          stored = λ e. absurd (omega arith);
+          unfit = λ _. (size, ef, refl);
+          wrong = λ e. absurd (omega arith);
+          no-other = inr (inl refl);
+        })
+    by false fit el ef =
+        let wrong = eqb-false (length edac) edacSize el in
+        subst (StoringLeaves limit edac list) (sym (wrong-EDAC-memory-is-left limit edac list wrong)) (record {
+          stored = λ e. absurd (omega arith);
+          unfit = λ e. absurd (omega arith);
+          wrong = λ _. (wrong, refl);
+          no-other = inr (inr refl);
+        })
+
+-- ---- on the line
+
+-- A WRITE FILE of any list is sent to a unit in application mode.
+module _ (most : ℕ) (u : Unit) (message : List ℕ) (source control : ℕ) (list : List ℕ) (calls : List Call) (c : Call)
+    (sends : SendsUpTo most u message source control list calls c) (code : codeOf control ≡ 0x08) (mode : u .mode ≡ Application) where
+  abbrev So : ℕ → List ℕ → Outcome → Type 0
+  So number edac o = (numberOf (o .answer) ≡ number) × (o .world .edac ≡ edac)
+
+  legal : length list ≤ longestData → Sends u message source control list calls c
+  legal short = record {
+    low = sends .low;
+    idle = sends .idle;
+    bytes = sends .bytes;
+    short = short;
+    packed = sends .packed;
+    ends = sends .ends;
+    suiting = sends .suiting;
+    suits = sends .suits;
+  }
+
+  fit-so : judgeListOf longestData list ≡ true → So (doneAnswer control) (filesStored (c .lent .edac) (listed list)) (leftBy u message calls c)
+  fit-so fit =
+      let so = a-command-that-is-done-answers-so u message source control list calls c (legal (what-is-fit longestData list fit .short)) _ _
+      (a-list-judged-fit-is-done u c control list code mode fit) in
+      (so .0, so .1)
+
+  refuses : So (refusedAnswer control) (c .lent .edac)
+      (answered (withReceiver u opened) (u .address) source control list refused (withItsMessage u message source control list c))
+  unfolding answered saidOf saying
+  refuses = (
+    either-way (λ (s : Said). numberOf (s .answer) ≡ refusedAnswer control) (polls control) _ _
+        (λ set. sym (ap (λ b. cond b 3 4) set)) (λ clear. sym (ap (λ b. cond b 3 4) clear)),
+    refl,
+  )
+
+  refused-so : length list ≤ longestData → judgeListOf longestData list ≡ false → So (refusedAnswer control) (c .lent .edac) (leftBy u message calls c)
+  refused-so short unfit =
+      subst (So (refusedAnswer control) (c .lent .edac))
+      (sym (what-a-sent-command-leaves u message source control list calls c (legal short)
+      ∙ ap (λ e. answered (withReceiver u opened) (u .address) source control list e (withItsMessage u message source control list c))
+      (a-list-judged-unfit-is-refused u c control list code mode unfit)))
+      refuses
+
+  dropped-so : longestData < length list → So 7 (c .lent .edac) (leftBy u message calls c)
+  unfolding servedOf
+  dropped-so long =
+      let m = sealed (u .address ∷ source ∷ control ∷ list) in
+      let size = sealed-size (u .address) source control list in
+      let whole = a-packed-message-too-long-is-dropped u message calls c (sends .low) (sends .suiting) (sends .suits) (sends .ends) m (omega arith) (sends .idle) (sends .packed) in
+      (ap (λ (f : Fed). numberOf (f .last .answer)) whole, ap (λ (f : Fed). f .last .world .edac) whole)
+
+  whole : length (c .lent .edac) ≡ edacSize
+  whole = a-served-step-fits u (lengthsOf (lentTo message c)) (a-call-that-suits-fits u message c (sends .low) (sends .suits)) .edac-fits
+
+  -- T-11. It is answered so,
+  pub what-a-WRITE-FILE-is-answered : numberOf (leftBy u message calls c .answer) ≡ listAnswer control list
+  what-a-WRITE-FILE-is-answered = by (judgeListOf longestData list) refl
+    where
+      by : (fit : Bool) → judgeListOf longestData list ≡ fit → numberOf (leftBy u message calls c .answer) ≡ listAnswer control list
+      by true e = fit-so e .0 ∙ sym (simp e)
+      by false e =
+          either-side (length list) longestData
+          (λ short. refused-so short e .0 ∙ sym (simp (e, le-leb (length list) longestData short)))
+          (λ long. dropped-so long .0 ∙ sym (simp (e, lt-leb (length list) longestData long)))
+
+  -- so judging says yes exactly where it is done, which is ACKed (1) with poll set, and 2 with poll clear;
+  pub done-exactly-where-judged-fit : (judgeListOf longestData list ≡ true → numberOf (leftBy u message calls c .answer) ≡ doneAnswer control)
+      × (numberOf (leftBy u message calls c .answer) ≡ doneAnswer control → judgeListOf longestData list ≡ true)
+  done-exactly-where-judged-fit = ((λ fit. fit-so fit .0), λ answered-so. by answered-so (judgeListOf longestData list) refl)
+    where
+      apart : (n : ℕ) (b : Bool) → n ≡ cond b 3 4 → n ≡ cond b 1 2 → ⊥
+      apart n true e f = omega arith
+      apart n false e f = omega arith
+
+      high : (n : ℕ) (b : Bool) → n ≡ 7 → n ≡ cond b 1 2 → ⊥
+      high n true e f = omega arith
+      high n false e f = omega arith
+
+      by : numberOf (leftBy u message calls c .answer) ≡ doneAnswer control → (fit : Bool) → judgeListOf longestData list ≡ fit → judgeListOf longestData list ≡ true
+      by so true e = e
+      by so false e =
+          either-side (length list) longestData
+          (λ short. absurd (apart _ (polls control) (refused-so short e .0) so))
+          (λ long. absurd (high _ (polls control) (dropped-so long .0) so))
+
+  -- and what it leaves in EDAC memory is what storing the list leaves there.
+  pub the-command-leaves-what-storing-leaves : leftBy u message calls c .world .edac ≡ storeListOf longestData (c .lent .edac) list .edac
+  the-command-leaves-what-storing-leaves = by (judgeListOf longestData list) refl
+    where
+      by : (fit : Bool) → judgeListOf longestData list ≡ fit → leftBy u message calls c .world .edac ≡ storeListOf longestData (c .lent .edac) list .edac
+      by true e = fit-so e .1 ∙ sym (ap (λ (s : Storage). s .edac) (a-fit-list-is-stored longestData (c .lent .edac) list whole e))
+      by false e =
+          either-side (length list) longestData (λ short. refused-so short e .1) (λ long. dropped-so long .1)
+          ∙ sym (ap (λ (s : Storage). s .edac) (an-unfit-list-is-not-stored longestData (c .lent .edac) list whole e))
