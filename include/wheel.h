@@ -23,12 +23,15 @@ extern "C" {
 #define WHEEL_MESSAGE 1033u      /* uint8_t, at least */
 #define WHEEL_REPLY 2068u        /* uint8_t, at least */
 
+/* The limit of a unit: the most data bytes of a message on its bus. */
+#define WHEEL_LIMIT 1028u
+
 /* The numbers of the answers. Only WHEEL_ACKED, WHEEL_NACKED and a packing that is WHEEL_TAKEN have bytes to send. */
-#define WHEEL_TAKEN 0u            /* set up; packed; joined; byte taken, or an empty run closed */
+#define WHEEL_TAKEN 0u            /* set up; packed; joined; list stored; byte taken, or an empty run closed */
 #define WHEEL_ACKED 1u            /* command done, poll set: an ACK reply */
 #define WHEEL_DONE_SILENT 2u      /* command done, poll clear */
 #define WHEEL_NACKED 3u           /* command refused, poll set: a NACK reply */
-#define WHEEL_REFUSED_SILENT 4u   /* command refused, poll clear */
+#define WHEEL_REFUSED_SILENT 4u   /* command refused, poll clear; storing: the list is unfit */
 #define WHEEL_FRAMING 5u          /* run dropped: framing (diagnostic 0x07) */
 #define WHEEL_RUNT 6u             /* run dropped: under 5 bytes (diagnostic 0x08) */
 #define WHEEL_OVERSIZE 7u         /* run dropped: over 1,033 bytes (diagnostic 0x09) */
@@ -120,6 +123,20 @@ struct wheel_stepped wheel_step(struct wheel_unit unit, uint8_t byte, uint8_t *e
 /* A message of 5 to 1,033 bytes, its CRC already on it, as the line carries it: FEND at both ends, escapes between. The
  * reply buffer is WHEEL_REPLY bytes or more, else WHEEL_BAD_BUFFERS; then WHEEL_BAD_LENGTH; both write nothing. */
 struct wheel_packed wheel_pack(const uint8_t *message, size_t message_len, uint8_t *reply, size_t reply_len);
+
+/* A WRITE FILE as two operations that need no unit. A list is the data of a WRITE FILE: for each file its address and four
+ * bytes, for file 0 its address, the mode byte and four bytes. `limit` is the unit's: WHEEL_LIMIT. A list that is empty, that
+ * ends inside a file or that is longer than the limit is unfit, and with a limit below 260 or above WHEEL_LIMIT every list is.
+ *
+ * Judging answers 1 where the list is fit, else 0: 1 exactly where a unit in application mode would ACK a WRITE FILE of it,
+ * whatever its memory holds. Nothing is written. */
+uint8_t wheel_judge_list(uint64_t limit, const uint8_t *list, size_t list_len);
+
+/* Storing stores every file of a fit list in EDAC, in order, as a WRITE FILE of it would: read-only bytes keep their value.
+ * It judges the list that it is lent, so a list need not have been judged before, and may have been altered since.
+ * WHEEL_TAKEN: stored. WHEEL_BAD_EDAC: EDAC is not WHEEL_EDAC long; else WHEEL_REFUSED_SILENT: the list is unfit; with either
+ * nothing changes. A list that is not to be stored in part is lent whole, in one call. */
+uint8_t wheel_store_list(uint64_t limit, uint8_t *edac, size_t edac_len, const uint8_t *list, size_t list_len);
 
 /* The message CRC of the bytes (ICD 10.8). */
 uint16_t wheel_crc(const uint8_t *bytes, size_t length);

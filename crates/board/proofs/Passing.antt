@@ -1,11 +1,16 @@
--- What the unit leaves, put into C's form: one law for each call that is passed on. Assumes nothing.
-use mathlib.Core.Path.{_≡_, ap, _∙_}
+-- What the rooms below answer and leave, put into C's form: one law for each call that is passed on. Assumes nothing.
+use mathlib.Core.Path.{_≡_, sym, ap, _∙_}
+use mathlib.Core.Bool.{Bool}
+use mathlib.Core.List.{List}
 use Prim.Native.Nat.{ℕ}
+use Rattle.file_commands.specs.declared.write_file.Storing.{Storing}
+use Rattle.file_commands.specs.WriteFile.{Storage, storage, storeNumberOf, storageOf}
 use Rattle.unit.specs.World.{World, Outcome, outcomeOf}
 use Rattle.unit.specs.Steps.{stepOf}
 use Rattle.judging.specs.declared.Unit.{Unit}
 use Rattle.unit.specs.declared.Stepped.{Stepped}
 use Rattle.board.specs.declared.WheelStepped.{WheelStepped}
+use Rattle.board.specs.Face.{yesOut}
 use Rattle.board.specs.Records.{steppedOut, returned, returnedBy}
 
 pub passed-on
@@ -23,3 +28,9 @@ pub a-step-passed-on
     → returned r after ≡ returnedBy (stepOf meant byte before)
 a-step-passed-on r stepped after u meant byte before e due same =
     passed-on r stepped after (stepOf meant byte before) e (due ∙ ap (λ v. stepOf v byte before) same)
+
+pub a-judgement-passed-on : (answer judged told : Bool) → answer ≡ judged → answer ≡ told → yesOut told ≡ yesOut judged
+a-judgement-passed-on answer judged told e is = ap yesOut (sym is ∙ e)
+
+pub a-storing-passed-on : (storing told : Storing) (after : List ℕ) (s : Storage) → storageOf storing after ≡ s → storing ≡ told → storage (storeNumberOf told) after ≡ s
+a-storing-passed-on storing told after s e is = ap (λ t. storageOf t after) (sym is) ∙ e

@@ -5,8 +5,9 @@ pub mod converting;
 ghost use mathlib.Core.Path.{_≡_};
 ghost use Rattle.crc.specs.Sum.{sumFrom, sumOf};
 ghost use Rattle.crc.specs.Joining.{joinOf};
-ghost use Rattle.board.specs.Face.{partIn, joinedOut};
+ghost use Rattle.board.specs.Face.{partIn, joinedOut, yesOut};
 ghost use Rattle.line.specs.Packing.{packOf};
+ghost use Rattle.file_commands.specs.WriteFile.{judgeListOf, storage, storeListOf};
 ghost use Rattle.unit.specs.World.{world};
 ghost use Rattle.unit.specs.Steps.{setUpOf, stepOf};
 ghost use Rattle.board.specs.Records.{unitIn, returned, returnedBy, packingBy};
@@ -14,6 +15,9 @@ use converting::stepped_out;
 use converting::unit_in;
 use crc::Joined;
 use crc::Part;
+use file_commands::write_file::Storing;
+use file_commands::write_file::judge_list;
+use file_commands::write_file::store_list;
 use line::packing::Packed;
 
 // A part as C holds it.
@@ -157,5 +161,28 @@ pub extern "C" fn wheel_pack(message: &[u8], reply: &mut [u8]) -> WheelPacked
             sent: 0,
             answer: 35,
         },
+    }
+}
+
+#[no_mangle]
+pub extern "C" fn wheel_judge_list(limit: u64, list: &[u8]) -> u8
+    ensures { λ r. ⌜ r ≡ yesOut (judgeListOf limit (now (list .entry))) ⌝ }
+{
+    if judge_list(limit as usize, list, 0) {
+        1
+    } else {
+        0
+    }
+}
+
+#[no_mangle]
+pub extern "C" fn wheel_store_list(limit: u64, edac: &mut [u8], list: &[u8]) -> u8
+    ensures { λ r. ⌜ storage r (now (edac .exit)) ≡ storeListOf limit (now (edac .entry)) (now (list .entry)) ⌝ }
+{
+    let storing = store_list(limit as usize, edac, list, 0);
+    match storing {
+        Storing::Stored => 0,
+        Storing::Unfit => 4,
+        Storing::BadEdac => 21,
     }
 }

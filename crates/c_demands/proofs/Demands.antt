@@ -1,7 +1,7 @@
 -- The demands, from C: whoever calls `wheel_set_up` and `wheel_step` and hands the record on from call to call has them as they stand here.
 -- Assumes nothing.
 use mathlib.Core.Path.{_≡_, refl, sym, ap, ap₂, _∙_, subst}
-use mathlib.Core.Bool.{true}
+use mathlib.Core.Bool.{Bool, true, false, false≢true}
 use mathlib.Core.List.{List, [], _∷_, _++_, map}
 use Prim.Native.Nat.{ℕ, zero, suc, _+_, _-_, _≤_}
 use native.Mathlib.Omega.{arith}
@@ -18,8 +18,10 @@ use Rattle.read_only.specs.ReadOnly.{KeepsReadOnly}
 use Rattle.memory.proofs.Tests.{either-side}
 use Rattle.read_only.proofs.Keeping.{kept-at-first, also-kept}
 use Rattle.blocks.specs.Fram.{Kept, kept, freshSums}
-use Rattle.carrying.specs.Ending.{done}
+use Rattle.carrying.specs.declared.Mode.the-variants.{Application}
+use Rattle.carrying.specs.Ending.{longestData, done}
 use Rattle.carrying.specs.Held.{Held}
+use Rattle.file_commands.specs.WriteFile.{judgeListOf, Storage, storage}
 use Rattle.answer.specs.Answers.{numberOf, sentOf}
 use Rattle.answer.specs.declared.Answer.the-variants.{Taken}
 use Rattle.judging.specs.declared.Unit.{Unit}
@@ -33,18 +35,21 @@ use Rattle.unit.specs.Steps.{nobody, somebody, firstOfFram, setUpAs, setUpOf, a
 use Rattle.board.specs.declared.WheelUnit.{WheelUnit}
 use Rattle.board.specs.declared.WheelStepped.{WheelStepped}
 use Rattle.board.specs.declared.WheelPacked.{WheelPacked}
+use Rattle.board.specs.Face.{yesOut}
 use Rattle.board.specs.Records.{modeOut, unitIn, unitOut, Returned, returned, returnedBy}
 use Rattle.board.proofs.Settled.{a-record-comes-back}
 use Rattle.demands.specs.Calls.{Fed, lentTo, fedOf, bytesOf, delivering, Suits, AllSuit, Idle, Lending, its-memory, Own, own, ownOf, withMemory, calledOf, Right, Inside}
 use Rattle.demands.specs.Leaving.{countsAfter}
-use Rattle.demands.specs.Orders.{Sends, withItsMessage, leftBy, sentBy, cameTo}
+use Rattle.demands.specs.Orders.{SendsUpTo, Sends, withItsMessage, leftBy, sentBy, doneAnswer, cameTo}
+use Rattle.demands.specs.Asking.{StoringLeaves}
 use Rattle.demands.proofs.Cases.{a-refused-set-up-has-its-number}
 use Rattle.demands.proofs.DemandOne.{what-every-answer-leaves, what-set-up-leaves}
 use Rattle.demands.proofs.DemandTwo.{a-packed-message-stands-in-the-buffer}
 use Rattle.demands.proofs.Orders.{a-sent-command-is-carried-out, a-command-that-is-done-sends-its-data}
 use Rattle.demands.proofs.DemandThree.{after-any-calls-the-sums-are-right, the-CRC-sent-is-fresh}
-use Rattle.demands.proofs.Keeping.{a-step-keeps-read-only-bytes, a-set-up-keeps-edac}
-use Rattle.c_demands.specs.FromC.{FromC, Steps, SetsUp, callOf, callsOf, LeavesInC, OnTheLine, Packs, bytesFromC, toBeSent, numbersOf, Follow, lastUnit, lastMemory, AnyFromC, setting-up, stepping, OnOneEdac, lastEdac}
+use Rattle.demands.proofs.Keeping.{a-step-keeps-read-only-bytes, storing-keeps-read-only-bytes, a-set-up-keeps-edac}
+use Rattle.demands.proofs.Asking.{what-storing-leaves, done-exactly-where-judged-fit, the-command-leaves-what-storing-leaves}
+use Rattle.c_demands.specs.FromC.{FromC, Steps, SetsUp, callOf, callsOf, LeavesInC, OnTheLine, Packs, bytesFromC, toBeSent, numbersOf, Follow, lastUnit, lastMemory, Judges, Stores, AnyFromC, setting-up, stepping, storing, OnOneEdac, lastEdac}
 
 -- ---- lists
 
@@ -269,10 +274,10 @@ module _ (address : ℕ) (lent : World) (back : WheelStepped) (after : World) (s
       (λ inside sent fram sums. the-CRC-sent-is-fresh address lent fits (asLending calls) (callsOf sending) (callOf c) message source control first last inside sent fram sums code polled)
       range sends its-fram its-sums
 
--- ---- 02, T-02
+-- ---- 02, T-02 and T-11
 
--- Let nothing but calls of `wheel_set_up` and `wheel_step` change EDAC memory, with whatever records, bytes and buffers, refused or not. After
--- any of them it is as long as it was, and each of its read-only bytes has the value that it had.
+-- Let nothing but calls of `wheel_set_up`, `wheel_step` and `wheel_store_list` change EDAC memory, in any order, with whatever records, bytes, lists and
+-- buffers, refused or not. After any of them it is as long as it was, and each of its read-only bytes has the value that it had.
 pub no-bytes-from-C-change-a-read-only-byte : (edac : List ℕ) (calls : List AnyFromC) → OnOneEdac edac calls → KeepsReadOnly edac (lastEdac edac calls)
 no-bytes-from-C-change-a-read-only-byte edac [] on = kept-at-first edac
 no-bytes-from-C-change-a-read-only-byte edac (setting-up address lent back after ∷ calls) on =
@@ -284,3 +289,41 @@ no-bytes-from-C-change-a-read-only-byte edac (stepping u c ∷ calls) on =
     (subst (λ before. KeepsReadOnly before (c .left .edac)) (on .0)
     (subst (KeepsReadOnly (c .lent .edac)) (sym (ap (λ (w : World). w .edac) (left u c (on .1)))) kept-so))
     (no-bytes-from-C-change-a-read-only-byte (c .left .edac) calls (on .2))
+no-bytes-from-C-change-a-read-only-byte edac (storing limit lent list answer left ∷ calls) on =
+    also-kept
+    (subst (λ before. KeepsReadOnly before left) (on .0)
+    (subst (KeepsReadOnly lent) (sym (ap (λ (s : Storage). s .edac) (on .1))) (storing-keeps-read-only-bytes limit lent list)))
+    (no-bytes-from-C-change-a-read-only-byte left calls (on .2))
+
+-- ---- 02, T-11
+
+-- What `wheel_store_list` leaves, by its answer: the store of the list that this very call was lent, whatever was judged before, or nothing.
+pub what-storing-from-C-leaves : (limit : ℕ) (edac list : List ℕ) (answer : ℕ) (left : List ℕ) → Stores limit edac list answer left
+    → StoringLeaves limit edac list (storage answer left)
+what-storing-from-C-leaves limit edac list answer left stores = subst (StoringLeaves limit edac list) (sym stores) (what-storing-leaves limit edac list)
+
+yes-is-1 : (b : Bool) → (yesOut b ≡ 1 → b ≡ true) × (b ≡ true → yesOut b ≡ 1)
+yes-is-1 true = ((λ _. refl), (λ _. refl))
+yes-is-1 false = ((λ e. absurd (omega (arith, e))), (λ e. absurd (false≢true e)))
+
+-- A WRITE FILE of a list of any length is given to `wheel_step` byte by byte, to a unit in application mode.
+module _ (most : ℕ) (u : WheelUnit) (message : List ℕ) (source control : ℕ) (list : List ℕ) (calls : List FromC) (c : FromC) (on : OnTheLine u message calls c)
+    (sends : SendsUpTo most (unitIn u) message source control list (callsOf calls) (callOf c)) (code : codeOf control ≡ 0x08) (mode : unitIn u .mode ≡ Application) where
+  came-back : returned (c .back) (c .left) ≡ returnedBy (leftBy (unitIn u) message (callsOf calls) (callOf c))
+  came-back = the-line-from-C u message calls c on .1
+
+  -- `wheel_judge_list` answers 1 for it exactly where the last byte answers that it is done: 1, or 2 with poll clear;
+  pub done-exactly-where-judged-fit-from-C : (answer : ℕ) → Judges longestData list answer
+      → (answer ≡ 1 → c .back .answer ≡ doneAnswer control) × (c .back .answer ≡ doneAnswer control → answer ≡ 1)
+  done-exactly-where-judged-fit-from-C answer judges =
+      let yes = yes-is-1 (judgeListOf longestData list) in
+      let both = done-exactly-where-judged-fit most (unitIn u) message source control list (callsOf calls) (callOf c) sends code mode in
+      let number = ap (λ (r : Returned). r .stepped .answer) came-back in
+      ((λ one. number ∙ both .0 (yes .0 (sym judges ∙ one))), λ so. judges ∙ yes .1 (both .1 (sym number ∙ so)))
+
+  -- and `wheel_store_list` on the EDAC memory that the last byte was lent leaves what that byte leaves.
+  pub storing-from-C-leaves-what-the-command-leaves : (answer : ℕ) (left : List ℕ) → Stores longestData (c .lent .edac) list answer left → left ≡ c .left .edac
+  storing-from-C-leaves-what-the-command-leaves answer left stores =
+      ap (λ (s : Storage). s .edac) stores
+      ∙ sym (ap (λ (r : Returned). r .world .edac) came-back
+      ∙ the-command-leaves-what-storing-leaves most (unitIn u) message source control list (callsOf calls) (callOf c) sends code mode)

@@ -7,11 +7,13 @@ use lib.ListN.{take}
 use Rattle.line.specs.Packing.{packOf}
 use Rattle.memory.specs.Bytes.{begun}
 use Rattle.blocks.specs.Fram.{Kept, kept}
+use Rattle.file_commands.specs.WriteFile.{judgeListOf, storage, storeListOf}
 use Rattle.unit.specs.World.{World}
 use Rattle.unit.specs.Steps.{setUpOf, stepOf}
 use Rattle.board.specs.declared.WheelUnit.{WheelUnit}
 use Rattle.board.specs.declared.WheelStepped.{WheelStepped}
 use Rattle.board.specs.declared.WheelPacked.{WheelPacked}
+use Rattle.board.specs.Face.{yesOut}
 use Rattle.board.specs.Records.{unitIn, unitOut, returned, returnedBy, packingBy}
 use Rattle.demands.specs.Calls.{Call, bytesOf}
 use Rattle.demands.specs.Leaving.{countsAfter}
@@ -95,22 +97,35 @@ abbrev pub lastMemory : Kept → List FromC → Kept
 lastMemory memory [] = memory
 lastMemory memory (c ∷ calls) = lastMemory (kept (c .left .fram) (c .left .sums)) calls
 
--- ---- 02, T-02: any calls on one EDAC memory
+-- ---- 02, T-11: a list judged, and a list stored
 
--- A call of `wheel_set_up`, with its address, what was lent, what came back and what was lent as the call left it; or one of `wheel_step`,
--- with its record.
+-- What the contract of `wheel_judge_list` says of a call with this limit and list that answered so.
+abbrev pub Judges : ℕ → List ℕ → ℕ → Type 0
+Judges limit list answer = answer ≡ yesOut (judgeListOf limit list)
+
+-- What the contract of `wheel_store_list` says of a call with this limit, EDAC memory and list that answered so and left this EDAC memory.
+abbrev pub Stores : ℕ → List ℕ → List ℕ → ℕ → List ℕ → Type 0
+Stores limit edac list answer left = storage answer left ≡ storeListOf limit edac list
+
+-- ---- 02, T-02 and T-11: any calls on one EDAC memory
+
+-- A call of `wheel_set_up`, with its address, what was lent, what came back and what was lent as the call left it; one of `wheel_step`,
+-- with its record; or one of `wheel_store_list`, with its limit, the EDAC memory and the list that were lent, its answer and the EDAC memory that it left.
 pub data AnyFromC : Type 0 where
   setting-up : ℕ → World → WheelStepped → World → AnyFromC
   stepping : WheelUnit → FromC → AnyFromC
+  storing : ℕ → List ℕ → List ℕ → ℕ → List ℕ → AnyFromC
 
 -- Each call is lent EDAC memory as the one before left it; all else may be anything, of any length, and another record at each call.
 abbrev pub OnOneEdac : List ℕ → List AnyFromC → Type 0
 OnOneEdac edac [] = Prim.Unit {0}
 OnOneEdac edac (setting-up address lent back left ∷ calls) = (lent .edac ≡ edac) × SetsUp address lent back left × OnOneEdac (left .edac) calls
 OnOneEdac edac (stepping u c ∷ calls) = (c .lent .edac ≡ edac) × Steps u c × OnOneEdac (c .left .edac) calls
+OnOneEdac edac (storing limit lent list answer left ∷ calls) = (lent ≡ edac) × Stores limit lent list answer left × OnOneEdac left calls
 
 -- EDAC memory as the last of them leaves it.
 abbrev pub lastEdac : List ℕ → List AnyFromC → List ℕ
 lastEdac edac [] = edac
 lastEdac edac (setting-up address lent back left ∷ calls) = lastEdac (left .edac) calls
 lastEdac edac (stepping u c ∷ calls) = lastEdac (c .left .edac) calls
+lastEdac edac (storing limit lent list answer left ∷ calls) = lastEdac left calls
