@@ -78,6 +78,14 @@ impl Wheel for Noting {
     fn join(&self, first: Part, second: Part) -> Result<Part, u8> {
         Second.join(first, second)
     }
+
+    fn judge_list(&self, limit: u64, list: &[u8]) -> bool {
+        Second.judge_list(limit, list)
+    }
+
+    fn store_list(&self, limit: u64, edac: &mut [u8], list: &[u8]) -> u8 {
+        Second.store_list(limit, edac, list)
+    }
 }
 
 fn noting(halt: usize) -> Noting {
