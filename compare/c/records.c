@@ -56,6 +56,28 @@ static void refused(const char *name, struct wheel_stepped came, unsigned answer
     same(name, (unsigned long long)memcmp(&lent, &before, sizeof lent), 0);
 }
 
+/* A list of files: a limit with all its bits, each refusal, and what is stored. */
+static void lists(void) {
+    static const uint8_t list[5] = {0x28, 0x11, 0x22, 0x33, 0x44};
+    const uint64_t no_limits[] = {0, 259, 1029, 0x10000u + 1028, 0x100000000u + 260, 0x8000000000000404u, 0xFFFFFFFFFFFFFFFFu};
+    for (size_t i = 0; i < 7; i++) {
+        same("no limit", wheel_judge_list(no_limits[i], list, 5), 0);
+        same("no limit", wheel_store_list(no_limits[i], lent.edac, WHEEL_EDAC, list, 5), WHEEL_REFUSED_SILENT);
+    }
+    same("a cut list", wheel_judge_list(WHEEL_LIMIT, list, 4), 0);
+    same("a cut list", wheel_store_list(WHEEL_LIMIT, lent.edac, WHEEL_EDAC, list, 4), WHEEL_REFUSED_SILENT);
+    same("no list", wheel_judge_list(WHEEL_LIMIT, list, 0), 0);
+    same("no list", wheel_store_list(WHEEL_LIMIT, lent.edac, WHEEL_EDAC, list, 0), WHEEL_REFUSED_SILENT);
+    same("storing 21", wheel_store_list(WHEEL_LIMIT, lent.edac, WHEEL_EDAC - 1, list, 5), WHEEL_BAD_EDAC);
+    same("storing 21 first", wheel_store_list(0, lent.edac, WHEEL_EDAC - 1, list, 4), WHEEL_BAD_EDAC);
+    same("storing changes nothing", (unsigned long long)memcmp(&lent, &before, sizeof lent), 0);
+    same("the least limit", wheel_judge_list(260, list, 5), 1);
+    same("the limit", wheel_judge_list(WHEEL_LIMIT, list, 5), 1);
+    same("stored", wheel_store_list(WHEEL_LIMIT, lent.edac, WHEEL_EDAC, list, 5), WHEEL_TAKEN);
+    memcpy(before.edac + 0xA0, list + 1, 4);
+    same("stored", (unsigned long long)memcmp(&lent, &before, sizeof lent), 0);
+}
+
 int main(void) {
     for (size_t i = 0; i < sizeof lent; i++) {
         ((uint8_t *)&lent)[i] = (uint8_t)(i * 7 + i / 251);
@@ -161,6 +183,8 @@ int main(void) {
     same("packed", sent.answer, WHEEL_TAKEN);
     same("packed", sent.sent, sizeof packed);
     same("packed", (unsigned long long)memcmp(&lent, &before, sizeof lent), 0);
+
+    lists();
 
     /* Joining: with no bytes on either side a part comes back as it was, with all bits of its fields; and its refusal. */
     const uint16_t some[] = {0, 1, 0x0123, 0xFEDC, 0xFFFF};

@@ -1,5 +1,5 @@
-/* The C face, linked and called as firmware does it: some vectors of 01, the joining of every cut of a text, and a unit on which
-   the line writes SPEED in vain. */
+/* The C face, linked and called as firmware does it: some vectors of 01, the joining of every cut of a text, a unit on which the
+   line writes SPEED in vain, and lists of files judged and stored with no unit at hand. */
 #include "wheel.h"
 
 #include <stdio.h>
@@ -38,6 +38,24 @@ static void speed_is_read_only(void) {
     }
 }
 
+/* 02, T-11: the lists of P11 and P12, in memory that holds zeros. */
+static void asked_before_writing(void) {
+    static const uint8_t p11[] = {0x28, 0x01, 0x02, 0x03, 0x04, 0x28, 0x05, 0x06, 0x07, 0x08};
+    static const uint8_t p12[] = {0x28, 0x01, 0x02, 0x03, 0x04, 0x29, 0x05};
+    static uint8_t edac[WHEEL_EDAC];
+    same("P11 judged", wheel_judge_list(WHEEL_LIMIT, p11, sizeof p11), 1);
+    same("P12 judged", wheel_judge_list(WHEEL_LIMIT, p12, sizeof p12), 0);
+    same("P12 stored", wheel_store_list(WHEEL_LIMIT, edac, WHEEL_EDAC, p12, sizeof p12), WHEEL_REFUSED_SILENT);
+    same("P11 stored in less", wheel_store_list(WHEEL_LIMIT, edac, WHEEL_EDAC - 1, p11, sizeof p11), WHEEL_BAD_EDAC);
+    for (size_t i = 0; i < WHEEL_EDAC; i++) {
+        same("nothing stored", edac[i], 0);
+    }
+    same("P11 stored", wheel_store_list(WHEEL_LIMIT, edac, WHEEL_EDAC, p11, sizeof p11), WHEEL_TAKEN);
+    for (size_t i = 0; i < WHEEL_EDAC; i++) {
+        same("P11 held", edac[i], i / 4 == 0x28 ? 5 + i % 4 : 0);
+    }
+}
+
 int main(void) {
     static const uint8_t text[9] = {'1', '2', '3', '4', '5', '6', '7', '8', '9'};
     static const uint8_t ping[3] = {0x41, 0x11, 0x80};
@@ -61,6 +79,7 @@ int main(void) {
     same("refused sum", refused.part.sum, 0);
     same("refused length", refused.part.len, 0);
     speed_is_read_only();
+    asked_before_writing();
     puts(bad ? "the C face: BAD" : "the C face: ok");
     return bad;
 }

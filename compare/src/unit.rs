@@ -68,6 +68,16 @@ extern "C" {
         reply: *mut u8,
         reply_len: usize,
     ) -> WheelPacked;
+
+    fn wheel_judge_list(limit: u64, list: *const u8, list_len: usize) -> u8;
+
+    fn wheel_store_list(
+        limit: u64,
+        edac: *mut u8,
+        edac_len: usize,
+        list: *const u8,
+        list_len: usize,
+    ) -> u8;
 }
 
 impl From<Record> for WheelUnit {
@@ -195,6 +205,28 @@ pub fn pack(message: &[u8], reply: &mut [u8]) -> (u8, usize) {
     (packed.answer, length(packed.sent))
 }
 
+/// Whether a list of files is fit to be stored. A number that is neither yes nor no is a fault of the face.
+pub fn judge_list(limit: u64, list: &[u8]) -> bool {
+    match unsafe { wheel_judge_list(limit, list.as_ptr(), list.len()) } {
+        0 => false,
+        1 => true,
+        number => panic!("the face judged a list with {number}"),
+    }
+}
+
+/// Stores a list of files that is fit, and hands back the answer.
+pub fn store_list(limit: u64, edac: &mut [u8], list: &[u8]) -> u8 {
+    unsafe {
+        wheel_store_list(
+            limit,
+            edac.as_mut_ptr(),
+            edac.len(),
+            list.as_ptr(),
+            list.len(),
+        )
+    }
+}
+
 /// The proved unit as a wheel that can be compared.
 pub struct Proved;
 
@@ -221,5 +253,13 @@ impl Wheel for Proved {
 
     fn join(&self, first: Part, second: Part) -> Result<Part, u8> {
         proved::join(first, second)
+    }
+
+    fn judge_list(&self, limit: u64, list: &[u8]) -> bool {
+        judge_list(limit, list)
+    }
+
+    fn store_list(&self, limit: u64, edac: &mut [u8], list: &[u8]) -> u8 {
+        store_list(limit, edac, list)
     }
 }

@@ -1,4 +1,5 @@
-//! Any wheel that can be compared: set-up, one byte, packing and joining over what it is lent.
+//! Any wheel that can be compared: set-up, one byte, packing, joining, and judging and storing a list of files, over what it
+//! is lent.
 
 use crate::record::Record;
 use crate::Part;
@@ -28,6 +29,10 @@ pub trait Wheel {
     fn pack(&self, message: &[u8], reply: &mut [u8]) -> (u8, usize);
     /// The joined part, or the number of the refusal.
     fn join(&self, first: Part, second: Part) -> Result<Part, u8>;
+    /// Whether a list of files is fit to be stored, where a message has at most `limit` data bytes.
+    fn judge_list(&self, limit: u64, list: &[u8]) -> bool;
+    /// The answer: 0 where the list is stored.
+    fn store_list(&self, limit: u64, edac: &mut [u8], list: &[u8]) -> u8;
 }
 
 /// Makes a wheel of a module that has the functions of `second`.
@@ -75,6 +80,14 @@ macro_rules! wheel_of_module {
 
             fn join(&self, first: $crate::Part, second: $crate::Part) -> Result<$crate::Part, u8> {
                 $($module)::+::join(first, second)
+            }
+
+            fn judge_list(&self, limit: u64, list: &[u8]) -> bool {
+                $($module)::+::judge_list(limit, list)
+            }
+
+            fn store_list(&self, limit: u64, edac: &mut [u8], list: &[u8]) -> u8 {
+                $($module)::+::store_list(limit, edac, list)
             }
         }
     };

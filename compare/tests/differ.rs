@@ -38,6 +38,15 @@ fn every_answer_and_every_command_comes_often() {
     for answer in [0, 36] {
         assert!(tally.joined.of(answer) >= 50, "{answer}:\n{tally}");
     }
+    for (times, answers) in [
+        (&tally.judged, &[0, 1][..]),
+        (&tally.stored, &[0, 4, 21]),
+        (&tally.sent, &[1, 2, 3, 4, 7]),
+    ] {
+        for &answer in answers {
+            assert!(times.of(answer) >= 20, "{answer}:\n{tally}");
+        }
+    }
     // Every read-only row is written over and beside and shown in every way, and every file written.
     let missed = tally.rows.missed();
     assert!(missed.is_empty(), "{missed:#?}\n{tally}");
@@ -77,6 +86,14 @@ impl Wheel for Noting {
 
     fn join(&self, first: Part, second: Part) -> Result<Part, u8> {
         Second.join(first, second)
+    }
+
+    fn judge_list(&self, limit: u64, list: &[u8]) -> bool {
+        Second.judge_list(limit, list)
+    }
+
+    fn store_list(&self, limit: u64, edac: &mut [u8], list: &[u8]) -> u8 {
+        Second.store_list(limit, edac, list)
     }
 }
 

@@ -41,6 +41,30 @@ fn each_mistake_is_caught() {
     assert!(caught >= 20);
 }
 
+/// Mistakes in what is asked without a unit, where the command is right.
+const AT_ODDS: [&str; 8] = [
+    "An empty list is judged fit",
+    "A list that ends inside a structure is judged fit",
+    "A list that ends one byte before the end of file 0 is judged fit",
+    "A list with a read-only file in it is judged unfit",
+    "The first files of an unfit list are stored",
+    "Storing an unfit list says that it is stored",
+    "Storing without a unit can write read-only bytes",
+    "Storing without a unit leaves the mode",
+];
+
+/// A wheel that has one is caught even where it is held against itself (02, T-11).
+#[test]
+fn a_wheel_at_odds_with_itself_is_caught() {
+    let all = mistakes::all();
+    for due in AT_ODDS {
+        let named = all.iter().find(|(name, _)| *name == due);
+        let (_, wheel) = named.expect("a mistake of this name");
+        let caught = sessions(*wheel, *wheel, 1, BYTES, &mut Tally::default());
+        assert!(caught.is_err(), "{due}");
+    }
+}
+
 #[test]
 fn a_copy_without_a_mistake_agrees() {
     let (name, wheel) = mistakes::all()[0];

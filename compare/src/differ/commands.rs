@@ -205,7 +205,7 @@ fn file_of(row: Row) -> Option<u8> {
     u8::try_from(row.first / 4).ok()
 }
 
-/// Files whose structures fill a data field to its edge: six bytes for each file 0, five for each other.
+/// Files whose structures fill a data field to its edge.
 fn filling(seeded: &mut Seeded) -> Vec<u8> {
     let size = MOST + seeded.below(9) - 5;
     let zeros = match seeded.below(3) {
@@ -213,9 +213,15 @@ fn filling(seeded: &mut Seeded) -> Vec<u8> {
         1 => 0,
         _ => seeded.below(size / 6),
     };
+    files_up_to(seeded, size, zeros)
+}
+
+/// So many times file 0, and others up to a size: six bytes for each file 0, five for each other.
+fn files_up_to(seeded: &mut Seeded, size: usize, zeros: usize) -> Vec<u8> {
+    let others = size.saturating_sub(6 * zeros) / 5;
     let mut files = vec![0; zeros];
-    files.extend((0..(size - 6 * zeros) / 5).map(|_| 1 + seeded.below(255) as u8));
-    let first = seeded.below(files.len());
+    files.extend((0..others).map(|_| 1 + seeded.below(255) as u8));
+    let first = seeded.below(files.len().max(1));
     files.rotate_left(first);
     files
 }
@@ -231,7 +237,7 @@ fn read_file(seeded: &mut Seeded) -> Vec<u8> {
     (0..length).map(|_| file(seeded)).collect()
 }
 
-fn write_file(seeded: &mut Seeded) -> Vec<u8> {
+pub fn write_file(seeded: &mut Seeded) -> Vec<u8> {
     let files = match seeded.below(10) {
         0 => filling(seeded),
         _ => {
@@ -244,6 +250,15 @@ fn write_file(seeded: &mut Seeded) -> Vec<u8> {
         data.truncate(data.len() - seeded.below(7).min(data.len()));
     }
     data
+}
+
+/// A list of whole structures that is so long, if there is one.
+pub fn whole_list(seeded: &mut Seeded, size: usize) -> Vec<u8> {
+    // A six for each byte over a multiple of five, and then five sixes in the place of six fives.
+    let (least, most) = (size % 5, size / 6);
+    let zeros = least + 5 * seeded.below(1 + most.saturating_sub(least) / 5);
+    let files = files_up_to(seeded, size, zeros);
+    structures(seeded, &files)
 }
 
 /// Files with a value for each.

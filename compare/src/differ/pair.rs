@@ -37,7 +37,7 @@ pub struct Pair<'a> {
     first: &'a dyn Wheel,
     second: &'a dyn Wheel,
     sides: [Buffers; 2],
-    tally: &'a mut Tally,
+    pub tally: &'a mut Tally,
     pub lengths: Lengths,
     pub record: Record,
     pub offset: u64,
@@ -164,6 +164,33 @@ impl<'a> Pair<'a> {
         agree(one, two, call)?;
         self.tally.joined.add(one.err().unwrap_or(0));
         Ok(())
+    }
+
+    pub fn judge_list(&mut self, limit: u64, list: &[u8]) -> Result<bool, String> {
+        let call = || format!("judging {list:x?}, limit {limit}");
+        let one = returned(|| self.first.judge_list(limit, list), call)?;
+        let two = returned(|| self.second.judge_list(limit, list), call)?;
+        agree(one, two, call)?;
+        self.tally.judged.add(one.into());
+        Ok(one)
+    }
+
+    /// Storing in EDAC memory of which so many bytes are lent.
+    pub fn store_list(&mut self, limit: u64, edac: usize, list: &[u8]) -> Result<u8, String> {
+        let [left, right] = &mut self.sides;
+        let call = || format!("storing {list:x?}, limit {limit}, in {edac}");
+        let (here, there) = (&mut left.edac[..edac], &mut right.edac[..edac]);
+        let one = returned(|| self.first.store_list(limit, here, list), call)?;
+        let two = returned(|| self.second.store_list(limit, there, list), call)?;
+        agree(one, two, call)?;
+        same_buffers(left, right, call)?;
+        self.tally.stored.add(one);
+        Ok(one)
+    }
+
+    /// EDAC memory, with its slack.
+    pub fn edac(&self) -> Vec<u8> {
+        self.sides[0].edac.clone()
     }
 
     /// The most FRAM blocks that can be lent, so that there is still slack.

@@ -1,7 +1,8 @@
-//! A session: a unit is set up, and then messages, noise, and callers who alter what they lend or lend it wrongly.
+//! A session: a unit is set up, and then messages, noise, callers who alter what they lend or lend it wrongly, and callers who
+//! ask about lists of files.
 
 use super::pair::{Lengths, Pair, LARGEST};
-use super::{commands, lines};
+use super::{commands, lines, lists};
 use crate::record::{Mode, Place, Record};
 use crate::second::read_only::ROWS;
 use crate::{Part, Seeded};
@@ -9,7 +10,7 @@ use crate::{Part, Seeded};
 const FEND: u8 = 0xC0;
 const FESC: u8 = 0xDB;
 
-type Played = Result<(), String>;
+pub type Played = Result<(), String>;
 
 /// Line bytes of a session. A large FRAM takes long to compare, so its sessions are short.
 fn bytes_with(fram_len: usize) -> u64 {
@@ -33,7 +34,7 @@ pub fn play(pair: &mut Pair, seeded: &mut Seeded) -> Played {
     }
     let bytes = bytes_with(pair.lengths.fram);
     while pair.offset < bytes {
-        match seeded.below(64) {
+        match seeded.below(70) {
             0..=28 => sound_run(pair, seeded)?,
             29..=31 => read_only_row(pair, seeded)?,
             32..=35 => repeated(pair, seeded)?,
@@ -45,7 +46,9 @@ pub fn play(pair: &mut Pair, seeded: &mut Seeded) -> Played {
             58..=60 => wrongly_lent(pair, seeded)?,
             61 => another_set_up(pair, seeded)?,
             62 => packing(pair, seeded)?,
-            _ => joining(pair, seeded)?,
+            63 => joining(pair, seeded)?,
+            64..=67 => lists::asked(pair, seeded)?,
+            _ => lists::sent(pair, seeded)?,
         }
     }
     Ok(())

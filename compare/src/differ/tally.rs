@@ -42,6 +42,11 @@ pub struct Tally {
     pub set_ups: Times,
     pub packed: Times,
     pub joined: Times,
+    /// Lists of files judged: 1 where the list is fit.
+    pub judged: Times,
+    pub stored: Times,
+    /// The answers to lists that were sent after they were judged.
+    pub sent: Times,
     /// What was done about the read-only rows.
     pub rows: Rows,
 }
@@ -66,6 +71,9 @@ impl fmt::Display for Tally {
         writeln!(f, "  set-up: {}", self.set_ups)?;
         writeln!(f, "  packing alone: {}", self.packed)?;
         writeln!(f, "  joining: {}", self.joined)?;
+        writeln!(f, "  judging a list: {}", self.judged)?;
+        writeln!(f, "  storing a list: {}", self.stored)?;
+        writeln!(f, "  sending a judged list: {}", self.sent)?;
         write!(f, "  {}", self.rows)
     }
 }

@@ -1,7 +1,7 @@
 //! 01, Commands (ICD 11): the eleven commands. Each judges its data's length first, then counts and the reply's size, then
 //! the memory range, and changes nothing before all of that is settled.
 
-use super::{edac, fram};
+use super::{edac, fram, list};
 use crate::record::Mode;
 
 /// The memory that commands read and write.
@@ -137,35 +137,18 @@ fn read_file(data: &[u8], edac: &[u8]) -> Done {
         .collect())
 }
 
-/// The whole list is read before anything is stored, and the reply shows memory after the whole command.
+/// The list is judged before anything is stored (02, T-11), and the reply shows memory after the whole command.
 fn write_file(data: &[u8], edac: &mut [u8]) -> Done {
-    let list = structures(data)?;
-    for structure in &list {
-        edac::store_file(structure, edac);
+    if !list::judge_list(MOST_DATA as u64, data) {
+        return Err(No::Refused);
     }
+    // A list that is fit is stored: a wrong length of EDAC was refused with the byte.
+    list::store_list(MOST_DATA as u64, edac, data);
     let mut shown = Vec::new();
-    for structure in &list {
+    for structure in list::structures(data) {
         shown.extend(edac::file(structure[0], edac));
     }
     Ok(shown)
-}
-
-/// The list of structures that the data is, refused where it is empty or ends inside a structure.
-fn structures(data: &[u8]) -> Result<Vec<&[u8]>, No> {
-    let (mut list, mut rest) = (Vec::new(), data);
-    while !rest.is_empty() {
-        let length = edac::structure_len(rest[0]);
-        if rest.len() < length {
-            return Err(No::Refused);
-        }
-        let (structure, after) = rest.split_at(length);
-        list.push(structure);
-        rest = after;
-    }
-    if list.is_empty() {
-        return Err(No::Refused);
-    }
-    Ok(list)
 }
 
 fn read_edac(data: &[u8], edac: &[u8]) -> Done {

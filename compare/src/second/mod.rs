@@ -1,9 +1,10 @@
-//! The whole unit of 01 a second time, with T-02 of 02, in plain Rust: what the proved unit is held against. It is written
-//! from 01, 02 and the ICD alone and shares no line with the proved one. It has no table of sums and keeps nothing between
-//! calls, and each sum is worked out bit by bit wherever 01 does not say that it comes from the kept ones.
+//! The whole unit of 01 a second time, with T-02 and T-11 of 02, in plain Rust: what the proved unit is held against. It is
+//! written from 01, 02 and the ICD alone and shares no line with the proved one. It has no table of sums and keeps nothing
+//! between calls, and each sum is worked out bit by bit wherever 01 does not say that it comes from the kept ones.
 //!
 //! A byte's way: `refusals` judges what is lent, `line` unpacks, `closing` judges a closed run, `command` carries it out on
-//! `edac`, where `read_only` says which bytes stay, and `fram`, and `line` packs the reply.
+//! `edac`, where `read_only` says which bytes stay, and `fram`, and `line` packs the reply. `list` judges and stores the files
+//! of WRITE FILE, for the command and for anyone who asks without a unit.
 
 mod closing;
 mod command;
@@ -11,12 +12,14 @@ mod crc;
 mod edac;
 mod fram;
 mod line;
+mod list;
 pub mod read_only;
 mod refusals;
 
 use crate::record::{Mode, Place, Record, REFUSED};
 use command::Memory;
 pub use crc::{join, sum};
+pub use list::{judge_list, store_list};
 use refusals::Lengths;
 
 /// 01, The unit and its neighbours: computes all sums and changes nothing else. Hands back the record and the answer.

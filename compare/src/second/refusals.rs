@@ -3,7 +3,7 @@
 use super::line::{FEND, FESC, LONGEST};
 use crate::record::Record;
 
-const EDAC_LEN: usize = 1_536;
+pub const EDAC_LEN: usize = 1_536;
 const BLOCK: usize = 256;
 const LARGEST_FRAM: usize = 262_144;
 const DIAGNOSTICS: usize = 31;
