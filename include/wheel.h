@@ -133,9 +133,9 @@ struct wheel_packed wheel_pack(const uint8_t *message, size_t message_len, uint8
 uint8_t wheel_judge_list(uint64_t limit, const uint8_t *list, size_t list_len);
 
 /* Storing stores every file of a fit list in EDAC, in order, as a WRITE FILE of it would: read-only bytes keep their value.
- * It judges the list that it is lent, so a list need not have been judged before, and may have been altered since.
- * WHEEL_TAKEN: stored. WHEEL_BAD_EDAC: EDAC is not WHEEL_EDAC long; else WHEEL_REFUSED_SILENT: the list is unfit; with either
- * nothing changes. A list that is not to be stored in part is lent whole, in one call. */
+ * It judges the list that it is lent, so a list need not have been judged before, and may have been altered since. The list
+ * must not lie in EDAC. WHEEL_TAKEN: stored. WHEEL_BAD_EDAC: EDAC is not WHEEL_EDAC long; else WHEEL_REFUSED_SILENT: the list
+ * is unfit; with either nothing changes. */
 uint8_t wheel_store_list(uint64_t limit, uint8_t *edac, size_t edac_len, const uint8_t *list, size_t list_len);
 
 /* The message CRC of the bytes (ICD 10.8). */

@@ -1,6 +1,7 @@
 /* One call of the C face, for an instruction count: `once crc LENGTH` over zeros, `once join LENGTH`, `once set_up FRAM`,
-   `once last CODE`, the FEND after the dearest message known of that command; and LENGTH calls: `once step LENGTH`, of
-   ordinary bytes in a run. It fails where an answer is not the one that is due. */
+   `once last CODE`, the FEND after the dearest message known of that command, `once ask 8` and `once write 8`, the list of that
+   message judged and stored; and LENGTH calls: `once step LENGTH`, of ordinary bytes in a run. It fails where an answer is not
+   the one that is due. */
 #include "wheel.h"
 
 #include <stdio.h>
@@ -58,6 +59,11 @@ int main(int count, char **words) {
     } else if (words[1][0] == 'j') {
         const struct wheel_part first = {0x1234, 0}, second = {0x5678, (uint32_t)number};
         printf("%04x\n", wheel_join(first, second).part.sum);
+    } else if (words[1][0] == 'a') {
+        return wheel_judge_list(WHEEL_LIMIT, bytes, dear(number, bytes)) != 1;
+    } else if (words[1][0] == 'w') {
+        static uint8_t edac[WHEEL_EDAC];
+        return wheel_store_list(WHEEL_LIMIT, edac, WHEEL_EDAC, bytes, dear(number, bytes)) != WHEEL_TAKEN;
     } else if (number <= WHEEL_FRAM_MOST) {
         static uint8_t edac[WHEEL_EDAC], fram[WHEEL_FRAM_MOST], message[WHEEL_MESSAGE], reply[WHEEL_REPLY];
         static uint16_t sums[WHEEL_FRAM_MOST / WHEEL_FRAM_BLOCK];
