@@ -2,12 +2,12 @@
 -- changes nothing. For any list of any length, and any memory. Assumes nothing.
 use mathlib.Core.Path.{_≡_, refl, sym, ap, _∙_, subst}
 use mathlib.Core.Bool.{Bool, true, false, cond}
-use mathlib.Core.Logic.{_⊎_, inl, inr}
+use mathlib.Core.Logic.{inl, inr}
 use mathlib.Core.List.{List, _∷_}
-use Prim.Native.Nat.{ℕ, _+_, _≤_, _<_}
+use Prim.Native.Nat.{ℕ, _≤_, _<_}
 use native.Mathlib.Omega.{arith}
-use borrow.Author.Tests.{le-leb, lt-leb, leb-false, eqb-true, eqb-false}
-use lib.Dec.{eqb, leb}
+use borrow.Author.Tests.{le-leb, lt-leb, eqb-true, eqb-false}
+use lib.Dec.{eqb}
 use lib.ListN.{length}
 use Rattle.line.specs.Receiver.{opened}
 use Rattle.memory.specs.Edac.{edacSize}
@@ -18,7 +18,7 @@ use Rattle.carrying.specs.Held.{held, onEdac}
 use Rattle.carrying.proofs.Room.{either-way}
 use Rattle.blocks.specs.Fram.{kept}
 use Rattle.file_commands.specs.ReadFile.{filesShown}
-use Rattle.file_commands.specs.WriteFile.{listed, filesOf, filesStored, judgeListOf, Storage, storage, storeListOf, writeFileOf}
+use Rattle.file_commands.specs.WriteFile.{listed, filesOf, filesStored, judgeListOf, Storage, storeListOf, writeFileOf}
 use Rattle.file_commands.proofs.Judging.{what-is-fit, a-fit-list-is-written, an-unfit-list-is-refused, a-fit-list-is-stored, an-unfit-list-is-not-stored, wrong-EDAC-memory-is-left}
 use Rattle.command.proofs.Codes.{in-application}
 use Rattle.answer.specs.Answers.{numberOf}
@@ -26,7 +26,7 @@ use Rattle.judging.specs.declared.Unit.{Unit}
 use Rattle.judging.specs.Judging.{withReceiver}
 use Rattle.replying.specs.Replies.{codeOf, polls, sealed, Said, saying, saidOf}
 use Rattle.judging.proofs.Serving.{a-served-step-fits}
-use Rattle.unit.specs.World.{World, lengthsOf, Outcome, heldOf}
+use Rattle.unit.specs.World.{lengthsOf, Outcome, heldOf}
 use Rattle.unit.specs.Steps.{firstOfFram, answered, servedOf}
 use Rattle.demands.specs.Calls.{Call, Fed, lentTo}
 use Rattle.demands.specs.Orders.{SendsUpTo, Sends, withItsMessage, leftBy, doneAnswer, refusedAnswer, cameTo}
@@ -149,7 +149,7 @@ module _ (most : ℕ) (u : Unit) (message : List ℕ) (source control : ℕ) (li
           (λ short. refused-so short e .0 ∙ sym (simp (e, le-leb (length list) longestData short)))
           (λ long. dropped-so long .0 ∙ sym (simp (e, lt-leb (length list) longestData long)))
 
-  -- so judging says yes exactly where it is done, which is ACKed (1) with poll set, and 2 with poll clear;
+  -- so judging says yes exactly where it is done, poll set or clear,
   pub done-exactly-where-judged-fit : (judgeListOf longestData list ≡ true → numberOf (leftBy u message calls c .answer) ≡ doneAnswer control)
       × (numberOf (leftBy u message calls c .answer) ≡ doneAnswer control → judgeListOf longestData list ≡ true)
   done-exactly-where-judged-fit = ((λ fit. fit-so fit .0), λ answered-so. by answered-so (judgeListOf longestData list) refl)
@@ -168,6 +168,14 @@ module _ (most : ℕ) (u : Unit) (message : List ℕ) (source control : ℕ) (li
           either-side (length list) longestData
           (λ short. absurd (apart _ (polls control) (refused-so short e .0) so))
           (λ long. absurd (high _ (polls control) (dropped-so long .0) so))
+
+  -- and, with poll set, exactly where it is ACKed;
+  pub ACKed-exactly-where-judged-fit : polls control ≡ true
+      → (judgeListOf longestData list ≡ true → numberOf (leftBy u message calls c .answer) ≡ 1)
+      × (numberOf (leftBy u message calls c .answer) ≡ 1 → judgeListOf longestData list ≡ true)
+  ACKed-exactly-where-judged-fit polled =
+      let one : doneAnswer control ≡ 1 = ap (λ b. cond b 1 2) polled in
+      ((λ fit. done-exactly-where-judged-fit .0 fit ∙ one), λ acked. done-exactly-where-judged-fit .1 (acked ∙ sym one))
 
   -- and what it leaves in EDAC memory is what storing the list leaves there.
   pub the-command-leaves-what-storing-leaves : leftBy u message calls c .world .edac ≡ storeListOf longestData (c .lent .edac) list .edac

@@ -1,15 +1,15 @@
 -- What a list that is judged fit is, and what storing and the command then come to (02, T-11). Assumes nothing.
 use mathlib.Core.Path.{_≡_, refl, sym, ap, _∙_}
-use mathlib.Core.Bool.{Bool, true, false, cond, _&&_, false≢true}
+use mathlib.Core.Bool.{Bool, true, false, _&&_, false≢true}
 use mathlib.Core.List.{List}
 use Prim.Native.Nat.{ℕ, _≤_, _<_}
 use native.Mathlib.Omega.{arith}
 use borrow.Author.Tests.{ltb-true, leb-true, lt-ltb, le-leb, eq-eqb, ne-eqb}
-use lib.Dec.{eqb, ltb, leb}
+use lib.Dec.{ltb, leb}
 use lib.ListN.{length}
 use Rattle.memory.specs.Edac.{edacSize}
 use Rattle.field.specs.Reading.{isWhole}
-use Rattle.carrying.specs.Ending.{longestData, leastLimit, isLimit, Ending, done, refused}
+use Rattle.carrying.specs.Ending.{longestData, leastLimit, isLimit, done, refused}
 use Rattle.carrying.proofs.Asking.{isDone}
 use Rattle.file_commands.specs.ReadFile.{filesShown}
 use Rattle.file_commands.specs.WriteFile.{listed, filesOf, filesStored, judgeListOf, Storage, storage, storeListOf, writeFileOf}

@@ -5,7 +5,7 @@ use mathlib.Core.Bool.{Bool, true, false, cond}
 use mathlib.Core.List.{List, [], _∷_, _++_}
 use Prim.Native.Nat.{ℕ, suc, _+_, _≤_, _<_}
 use native.Mathlib.Omega.{arith}
-use borrow.Author.Tests.{le-ltb, ltb-false, ne-eqb, eqb-false}
+use borrow.Author.Tests.{le-ltb, ne-eqb}
 use lib.Dec.{eqb, ltb}
 use lib.ListN.{length, drop, getD}
 use Rattle.memory.specs.Bytes.{stretch}
@@ -13,7 +13,6 @@ use Rattle.read_only.specs.ReadOnly.{KeepsReadOnly}
 use Rattle.memory.specs.Edac.{edacSize, bodySize, shownSize, fileShown}
 use Rattle.read_only.specs.Files.{fileStored, fileReadOnly, ofFile}
 use Rattle.memory.proofs.Stretches.{length-of-a-stretch}
-use Rattle.memory.proofs.Tests.{either-side}
 use Rattle.read_only.proofs.Keeping.{kept-at-first, also-kept}
 use Rattle.read_only.proofs.Files.{a-stored-file-keeps-read-only-bytes, neither, a-byte-of-another-file-stays, an-address-and-a-body, a-file-after-a-store}
 use Rattle.field.specs.Reading.{Listed, ends, cut, item, isWhole}
