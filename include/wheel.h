@@ -15,7 +15,7 @@ extern "C" {
 #endif
 
 /* What is lent to a unit, in elements of its type. FRAM is a multiple of WHEEL_FRAM_BLOCK. */
-#define WHEEL_EDAC 1536u         /* uint8_t, exactly; 153 of them are read-only on the line (docs/EDAC.md) */
+#define WHEEL_EDAC 1536u         /* uint8_t, exactly; 153 of them are read-only to WRITE FILE and WRITE EDAC (docs/EDAC.md) */
 #define WHEEL_FRAM_LEAST 256u    /* uint8_t */
 #define WHEEL_FRAM_MOST 262144u  /* uint8_t */
 #define WHEEL_FRAM_BLOCK 256u    /* one sum, a uint16_t, for each block of so many bytes of FRAM, exactly */
@@ -128,8 +128,8 @@ struct wheel_packed wheel_pack(const uint8_t *message, size_t message_len, uint8
  * bytes, for file 0 its address, the mode byte and four bytes. `limit` is the unit's: WHEEL_LIMIT. A list that is empty, that
  * ends inside a file or that is longer than the limit is unfit, and with a limit below 260 or above WHEEL_LIMIT every list is.
  *
- * Judging answers 1 where the list is fit, else 0: 1 exactly where a unit in application mode would ACK a WRITE FILE of it,
- * whatever its memory holds. Nothing is written. */
+ * Judging answers 1 where the list is fit, else 0: with the unit's limit, 1 exactly where that unit in application mode would
+ * ACK a WRITE FILE of it, whatever its memory holds. Nothing is written. */
 uint8_t wheel_judge_list(uint64_t limit, const uint8_t *list, size_t list_len);
 
 /* Storing stores every file of a fit list in EDAC, in order, as a WRITE FILE of it would: read-only bytes keep their value.

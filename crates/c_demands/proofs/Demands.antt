@@ -1,4 +1,5 @@
--- The demands, from C: whoever calls `wheel_set_up` and `wheel_step` and hands the record on from call to call has them as they stand here.
+-- The demands, from C: whoever calls `wheel_set_up` and `wheel_step` and hands the record on from call to call has them as they stand here, and
+-- T-11 whoever judges and stores lists by `wheel_judge_list` and `wheel_store_list`.
 -- Assumes nothing.
 use mathlib.Core.Path.{_≡_, refl, sym, ap, ap₂, _∙_, subst}
 use mathlib.Core.Bool.{Bool, true, false, false≢true}
@@ -21,7 +22,8 @@ use Rattle.blocks.specs.Fram.{Kept, kept, freshSums}
 use Rattle.carrying.specs.declared.Mode.the-variants.{Application}
 use Rattle.carrying.specs.Ending.{longestData, done}
 use Rattle.carrying.specs.Held.{Held}
-use Rattle.file_commands.specs.WriteFile.{judgeListOf, Storage, storage}
+use Rattle.file_commands.specs.WriteFile.{judgeListOf, Storage, storage, StoringLeaves}
+use Rattle.file_commands.proofs.Judging.{what-storing-leaves}
 use Rattle.answer.specs.Answers.{numberOf, sentOf}
 use Rattle.answer.specs.declared.Answer.the-variants.{Taken}
 use Rattle.judging.specs.declared.Unit.{Unit}
@@ -41,14 +43,13 @@ use Rattle.board.proofs.Settled.{a-record-comes-back}
 use Rattle.demands.specs.Calls.{Fed, lentTo, fedOf, bytesOf, delivering, Suits, AllSuit, Idle, Lending, its-memory, Own, own, ownOf, withMemory, calledOf, Right, Inside}
 use Rattle.demands.specs.Leaving.{countsAfter}
 use Rattle.demands.specs.Orders.{SendsUpTo, Sends, withItsMessage, leftBy, sentBy, doneAnswer, cameTo}
-use Rattle.demands.specs.Asking.{StoringLeaves}
 use Rattle.demands.proofs.Cases.{a-refused-set-up-has-its-number}
 use Rattle.demands.proofs.DemandOne.{what-every-answer-leaves, what-set-up-leaves}
 use Rattle.demands.proofs.DemandTwo.{a-packed-message-stands-in-the-buffer}
 use Rattle.demands.proofs.Orders.{a-sent-command-is-carried-out, a-command-that-is-done-sends-its-data}
 use Rattle.demands.proofs.DemandThree.{after-any-calls-the-sums-are-right, the-CRC-sent-is-fresh}
 use Rattle.demands.proofs.Keeping.{a-step-keeps-read-only-bytes, storing-keeps-read-only-bytes, a-set-up-keeps-edac}
-use Rattle.demands.proofs.Asking.{what-storing-leaves, done-exactly-where-judged-fit, the-command-leaves-what-storing-leaves}
+use Rattle.demands.proofs.Asking.{done-exactly-where-judged-fit, the-command-leaves-what-storing-leaves}
 use Rattle.c_demands.specs.FromC.{FromC, Steps, SetsUp, callOf, callsOf, LeavesInC, OnTheLine, Packs, bytesFromC, toBeSent, numbersOf, Follow, lastUnit, lastMemory, Judges, Stores, AnyFromC, setting-up, stepping, storing, OnOneEdac, lastEdac}
 
 -- ---- lists
@@ -289,24 +290,24 @@ no-bytes-from-C-change-a-read-only-byte edac (stepping u c ∷ calls) on =
     (subst (λ before. KeepsReadOnly before (c .left .edac)) (on .0)
     (subst (KeepsReadOnly (c .lent .edac)) (sym (ap (λ (w : World). w .edac) (left u c (on .1)))) kept-so))
     (no-bytes-from-C-change-a-read-only-byte (c .left .edac) calls (on .2))
-no-bytes-from-C-change-a-read-only-byte edac (storing limit lent list answer left ∷ calls) on =
+no-bytes-from-C-change-a-read-only-byte edac (storing limit lent list answer after ∷ calls) on =
     also-kept
-    (subst (λ before. KeepsReadOnly before left) (on .0)
+    (subst (λ before. KeepsReadOnly before after) (on .0)
     (subst (KeepsReadOnly lent) (sym (ap (λ (s : Storage). s .edac) (on .1))) (storing-keeps-read-only-bytes limit lent list)))
-    (no-bytes-from-C-change-a-read-only-byte left calls (on .2))
+    (no-bytes-from-C-change-a-read-only-byte after calls (on .2))
 
 -- ---- 02, T-11
 
 -- What `wheel_store_list` leaves, by its answer: the store of the list that this very call was lent, whatever was judged before, or nothing.
-pub what-storing-from-C-leaves : (limit : ℕ) (edac list : List ℕ) (answer : ℕ) (left : List ℕ) → Stores limit edac list answer left
-    → StoringLeaves limit edac list (storage answer left)
-what-storing-from-C-leaves limit edac list answer left stores = subst (StoringLeaves limit edac list) (sym stores) (what-storing-leaves limit edac list)
+pub what-storing-from-C-leaves : (limit : ℕ) (edac list : List ℕ) (answer : ℕ) (after : List ℕ) → Stores limit edac list answer after
+    → StoringLeaves limit edac list (storage answer after)
+what-storing-from-C-leaves limit edac list answer after stores = subst (StoringLeaves limit edac list) (sym stores) (what-storing-leaves limit edac list)
 
 yes-is-1 : (b : Bool) → (yesOut b ≡ 1 → b ≡ true) × (b ≡ true → yesOut b ≡ 1)
 yes-is-1 true = ((λ _. refl), (λ _. refl))
 yes-is-1 false = ((λ e. absurd (omega (arith, e))), (λ e. absurd (false≢true e)))
 
--- A WRITE FILE of a list of any length is given to `wheel_step` byte by byte, to a unit in application mode.
+-- A WRITE FILE of a list is given to `wheel_step` byte by byte, to a unit in application mode. `most` may be any number, so the list may have any length.
 module _ (most : ℕ) (u : WheelUnit) (message : List ℕ) (source control : ℕ) (list : List ℕ) (calls : List FromC) (c : FromC) (on : OnTheLine u message calls c)
     (sends : SendsUpTo most (unitIn u) message source control list (callsOf calls) (callOf c)) (code : codeOf control ≡ 0x08) (mode : unitIn u .mode ≡ Application) where
   came-back : returned (c .back) (c .left) ≡ returnedBy (leftBy (unitIn u) message (callsOf calls) (callOf c))
@@ -322,8 +323,8 @@ module _ (most : ℕ) (u : WheelUnit) (message : List ℕ) (source control : ℕ
       ((λ one. number ∙ both .0 (yes .0 (sym judges ∙ one))), λ so. judges ∙ yes .1 (both .1 (sym number ∙ so)))
 
   -- and `wheel_store_list` on the EDAC memory that the last byte was lent leaves what that byte leaves.
-  pub storing-from-C-leaves-what-the-command-leaves : (answer : ℕ) (left : List ℕ) → Stores longestData (c .lent .edac) list answer left → left ≡ c .left .edac
-  storing-from-C-leaves-what-the-command-leaves answer left stores =
+  pub storing-from-C-leaves-what-the-command-leaves : (answer : ℕ) (after : List ℕ) → Stores longestData (c .lent .edac) list answer after → after ≡ c .left .edac
+  storing-from-C-leaves-what-the-command-leaves answer after stores =
       ap (λ (s : Storage). s .edac) stores
       ∙ sym (ap (λ (r : Returned). r .world .edac) came-back
       ∙ the-command-leaves-what-storing-leaves most (unitIn u) message source control list (callsOf calls) (callOf c) sends code mode)

@@ -14,8 +14,7 @@ use Rattle.carrying.specs.declared.Ended.the-variants.{Done, Refused, Un
 abbrev pub longestData : ℕ
 longestData = 1028
 
--- A bus may allow less (02, T-06 and T-11): what may be its limit. No less than 260, since a one-byte count of 0 asks for 256 bytes behind an
--- address of four.
+-- A bus may allow less (02, T-06): what its limit may be. No less than 260, since a one-byte count of 0 asks for 256 bytes behind an address of four.
 abbrev pub leastLimit : ℕ
 leastLimit = 260
 

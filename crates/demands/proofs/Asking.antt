@@ -1,5 +1,5 @@
--- 02, T-11: judging a list says yes exactly where a unit in application mode would ACK it, storing stores what the command stores, and an unfit list
--- changes nothing. For any list of any length, and any memory. Assumes nothing.
+-- 02, T-11: judging a list says yes exactly where a unit in application mode would ACK it, and storing leaves what the command leaves. For any list of
+-- any length, and any memory. Assumes nothing.
 use mathlib.Core.Path.{_≡_, refl, sym, ap, _∙_, subst}
 use mathlib.Core.Bool.{Bool, true, false, cond}
 use mathlib.Core.Logic.{inl, inr}
@@ -17,9 +17,10 @@ use Rattle.carrying.specs.Ending.{longestData, done, refused}
 use Rattle.carrying.specs.Held.{held, onEdac}
 use Rattle.carrying.proofs.Room.{either-way}
 use Rattle.blocks.specs.Fram.{kept}
+use Rattle.field.specs.Reading.{isWhole}
 use Rattle.file_commands.specs.ReadFile.{filesShown}
 use Rattle.file_commands.specs.WriteFile.{listed, filesOf, filesStored, judgeListOf, Storage, storeListOf, writeFileOf}
-use Rattle.file_commands.proofs.Judging.{what-is-fit, a-fit-list-is-written, an-unfit-list-is-refused, a-fit-list-is-stored, an-unfit-list-is-not-stored, wrong-EDAC-memory-is-left}
+use Rattle.file_commands.proofs.Judging.{what-is-fit, so-it-is-fit, a-fit-list-is-written, an-unfit-list-is-refused, a-fit-list-is-stored, an-unfit-list-is-not-stored}
 use Rattle.command.proofs.Codes.{in-application}
 use Rattle.answer.specs.Answers.{numberOf}
 use Rattle.judging.specs.declared.Unit.{Unit}
@@ -30,7 +31,7 @@ use Rattle.unit.specs.World.{lengthsOf, Outcome, heldOf}
 use Rattle.unit.specs.Steps.{firstOfFram, answered, servedOf}
 use Rattle.demands.specs.Calls.{Call, Fed, lentTo}
 use Rattle.demands.specs.Orders.{SendsUpTo, Sends, withItsMessage, leftBy, doneAnswer, refusedAnswer, cameTo}
-use Rattle.demands.specs.Asking.{listAnswer, StoringLeaves}
+use Rattle.demands.specs.Asking.{listAnswer}
 use Rattle.demands.proofs.DemandTwo.{a-call-that-suits-fits, sealed-size, a-packed-message-too-long-is-dropped}
 use Rattle.demands.proofs.Orders.{what-a-sent-command-leaves}
 use Rattle.demands.proofs.Doing.{a-command-that-is-done-answers-so}
@@ -53,40 +54,9 @@ module _ (u : Unit) (c : Call) (control : ℕ) (list : List ℕ) (code : codeOf 
   pub a-list-judged-unfit-is-refused : judgeListOf longestData list ≡ false → cameTo u c control list ≡ refused
   a-list-judged-unfit-is-refused unfit = its-row ∙ ap (onEdac (heldOf u (c .lent))) (an-unfit-list-is-refused longestData (c .lent .edac) list unfit)
 
--- ---- what storing leaves
-
-pub what-storing-leaves : (limit : ℕ) (edac list : List ℕ) → StoringLeaves limit edac list (storeListOf limit edac list)
-what-storing-leaves limit edac list = by (eqb (length edac) edacSize) (judgeListOf limit list) refl refl
-  where
-    by : (long fit : Bool) → eqb (length edac) edacSize ≡ long → judgeListOf limit list ≡ fit → StoringLeaves limit edac list (storeListOf limit edac list)
-    by true true el ef =
-        let size = eqb-true (length edac) edacSize el in
-        subst (StoringLeaves limit edac list) (sym (a-fit-list-is-stored limit edac list size ef)) (record {
-          stored = λ _. (size, ef, refl);
-          unfit = λ e. absurd (omega arith);
-          wrong = λ e. absurd (omega arith);
-          no-other = inl refl;
-        })
-    by true false el ef =
-        let size = eqb-true (length edac) edacSize el in
-        subst (StoringLeaves limit edac list) (sym (an-unfit-list-is-not-stored limit edac list size ef)) (record {
-          stored = λ e. absurd (omega arith);
-          unfit = λ _. (size, ef, refl);
-          wrong = λ e. absurd (omega arith);
-          no-other = inr (inl refl);
-        })
-    by false fit el ef =
-        let wrong = eqb-false (length edac) edacSize el in
-        subst (StoringLeaves limit edac list) (sym (wrong-EDAC-memory-is-left limit edac list wrong)) (record {
-          stored = λ e. absurd (omega arith);
-          unfit = λ e. absurd (omega arith);
-          wrong = λ _. (wrong, refl);
-          no-other = inr (inr refl);
-        })
-
 -- ---- on the line
 
--- A WRITE FILE of any list is sent to a unit in application mode.
+-- A WRITE FILE of any list is sent to a unit in application mode. `most` may be any number, so the list may have any length.
 module _ (most : ℕ) (u : Unit) (message : List ℕ) (source control : ℕ) (list : List ℕ) (calls : List Call) (c : Call)
     (sends : SendsUpTo most u message source control list calls c) (code : codeOf control ≡ 0x08) (mode : u .mode ≡ Application) where
   abbrev So : ℕ → List ℕ → Outcome → Type 0
@@ -176,6 +146,16 @@ module _ (most : ℕ) (u : Unit) (message : List ℕ) (source control : ℕ) (li
   ACKed-exactly-where-judged-fit polled =
       let one : doneAnswer control ≡ 1 = ap (λ b. cond b 1 2) polled in
       ((λ fit. done-exactly-where-judged-fit .0 fit ∙ one), λ acked. done-exactly-where-judged-fit .1 (acked ∙ sym one))
+
+  -- which is, in 01's own words: a list that is not empty, has room in a message and does not end inside a structure;
+  pub done-exactly-where-01-says :
+      (numberOf (leftBy u message calls c .answer) ≡ doneAnswer control → (0 < length list) × (length list ≤ longestData) × (isWhole (listed list) ≡ true))
+      × (0 < length list → length list ≤ longestData → isWhole (listed list) ≡ true → numberOf (leftBy u message calls c .answer) ≡ doneAnswer control)
+  done-exactly-where-01-says = (
+    (λ so. let fit = what-is-fit longestData list (done-exactly-where-judged-fit .1 so) in (fit .some, fit .short, fit .whole)),
+    λ some short ends. done-exactly-where-judged-fit .0
+        (so-it-is-fit longestData list (record { least = omega arith; most = omega arith; some = some; short = short; whole = ends })),
+  )
 
   -- and what it leaves in EDAC memory is what storing the list leaves there.
   pub the-command-leaves-what-storing-leaves : leftBy u message calls c .world .edac ≡ storeListOf longestData (c .lent .edac) list .edac

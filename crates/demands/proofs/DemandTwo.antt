@@ -255,7 +255,7 @@ module _ (u : Unit) (message : List ℕ) (calls : List Call) (c : Call) (low : u
       ∙ ap (λ (o : Reception). comesTo (withReceiver u (o .receiver)) (o .heard) (lentTo (o .message) d)) (ap (λ (n : ℕ). receiveOf messageSize (u .receiver) n message) e)
       ∙ quiet (lentTo message d) idle
 
-  -- what comes after any FEND comes after the one that is sent before it too, where nothing is open
+  -- a body that comes to something after any FEND comes to the same with its FEND before it, where nothing is open
   with-its-FEND : Idle (u .receiver) → (body : List ℕ) → bytesOf calls ≡ fend ∷ body → (x : Outcome)
       → ((part : List Call) → AllSuit (u .address) (u .«fram_len») (length message) part → bytesOf part ≡ body
       → fedOf (withReceiver u opened) message part c ≡ delivering (length part) x)

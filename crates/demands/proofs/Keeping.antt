@@ -36,7 +36,7 @@ use Rattle.judging.specs.Judging.{withReceiver}
 use Rattle.replying.specs.Replies.{codeOf}
 use Rattle.unit.specs.World.{World, lengthsOf, Outcome, withMessage, heldOf}
 use Rattle.unit.specs.Steps.{setUpAs, setUpOf, firstOfFram, answered, stepOf}
-use Rattle.demands.specs.Keeping.{LineCall, setting-up, stepping, storing, onThis, edacLeft}
+use Rattle.demands.specs.Keeping.{EdacCall, setting-up, stepping, storing, onThis, edacLeft}
 use Rattle.demands.proofs.Cases.{of-any-call}
 use Rattle.demands.proofs.DemandThree.{Keeps, keeps-inside}
 
@@ -144,10 +144,10 @@ a-set-up-keeps-edac address w = apart (setUpFit address (lengthsOf w))
 
 -- ---- any calls
 
--- T-02, and T-11's any order of calls. Let nothing but calls of `set_up`, `step` and `store_list` change EDAC memory, on whatever units, with
+-- T-02, and T-11's storing. Let nothing but calls of `set_up`, `step` and `store_list` change EDAC memory, on whatever units, with
 -- whatever bytes, lists and whatever else they lend, of any length, refused or not, in any order, judged before or not. After any of them it is as
 -- long as it was, and each of its read-only bytes has the value that it had.
-pub no-bytes-change-a-read-only-byte : (edac : List ℕ) (calls : List LineCall) → KeepsReadOnly edac (edacLeft edac calls)
+pub no-bytes-change-a-read-only-byte : (edac : List ℕ) (calls : List EdacCall) → KeepsReadOnly edac (edacLeft edac calls)
 no-bytes-change-a-read-only-byte edac [] = kept-at-first edac
 no-bytes-change-a-read-only-byte edac (setting-up address w ∷ calls) =
     also-kept (subst (KeepsReadOnly edac) (sym (a-set-up-keeps-edac address (onThis edac w))) (kept-at-first edac))

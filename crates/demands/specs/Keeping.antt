@@ -1,5 +1,5 @@
--- Calls one after the other on one EDAC memory, as 02, T-02 and T-11 speak of it: no bytes on the line change a read-only byte, and no order of
--- calls breaks memory. Assumes nothing.
+-- Calls one after the other on one EDAC memory, as 02, T-02 speaks of it: no bytes on the line change a read-only byte, nor does a list that is
+-- stored (T-11). Assumes nothing.
 use Prim.Native.Nat.{ℕ}
 use mathlib.Core.List.{List, [], _∷_}
 use Rattle.file_commands.specs.WriteFile.{storeListOf}
@@ -11,17 +11,17 @@ use Rattle.demands.specs.Calls.{Call}
 -- A call of `set_up` for an address, of `step` on a unit, or of `store_list` with a limit and a list. All that it names may be anything, of any
 -- length, and another thing at each call, the unit too: a call that is refused is a call. Only EDAC memory is not the one that it names: it is lent
 -- the one spoken of. (`judge_list` is lent none.)
-pub data LineCall : Type 0 where
-  setting-up : ℕ → World → LineCall
-  stepping : Unit → Call → LineCall
-  storing : ℕ → List ℕ → LineCall
+pub data EdacCall : Type 0 where
+  setting-up : ℕ → World → EdacCall
+  stepping : Unit → Call → EdacCall
+  storing : ℕ → List ℕ → EdacCall
 
 -- What is lent, with this EDAC memory in place of the one named.
 abbrev pub onThis : List ℕ → World → World
 onThis edac w = world edac (w .fram) (w .sums) (w .diagnostics) (w .message) (w .reply)
 
 -- EDAC memory after calls one after the other, where nothing else changes it.
-abbrev pub edacLeft : List ℕ → List LineCall → List ℕ
+abbrev pub edacLeft : List ℕ → List EdacCall → List ℕ
 edacLeft edac [] = edac
 edacLeft edac (setting-up address w ∷ calls) = edacLeft (setUpOf address (onThis edac w) .world .edac) calls
 edacLeft edac (stepping u c ∷ calls) = edacLeft (stepOf u (c .byte) (onThis edac (c .lent)) .world .edac) calls

@@ -1,18 +1,19 @@
 -- What a list that is judged fit is, and what storing and the command then come to (02, T-11). Assumes nothing.
-use mathlib.Core.Path.{_≡_, refl, sym, ap, _∙_}
-use mathlib.Core.Bool.{Bool, true, false, _&&_, false≢true}
+use mathlib.Core.Path.{_≡_, refl, sym, _∙_, subst}
+use mathlib.Core.Bool.{Bool, true, false}
+use mathlib.Core.Logic.{inl, inr}
 use mathlib.Core.List.{List}
 use Prim.Native.Nat.{ℕ, _≤_, _<_}
 use native.Mathlib.Omega.{arith}
-use borrow.Author.Tests.{ltb-true, leb-true, lt-ltb, le-leb, eq-eqb, ne-eqb}
-use lib.Dec.{ltb, leb}
+use borrow.Author.Tests.{ltb-true, leb-true, lt-ltb, le-leb, eqb-true, eqb-false, eq-eqb, ne-eqb}
+use lib.Dec.{eqb, ltb, leb}
 use lib.ListN.{length}
 use Rattle.memory.specs.Edac.{edacSize}
+use Rattle.read_only.proofs.Runs.{both}
 use Rattle.field.specs.Reading.{isWhole}
 use Rattle.carrying.specs.Ending.{longestData, leastLimit, isLimit, done, refused}
-use Rattle.carrying.proofs.Asking.{isDone}
 use Rattle.file_commands.specs.ReadFile.{filesShown}
-use Rattle.file_commands.specs.WriteFile.{listed, filesOf, filesStored, judgeListOf, Storage, storage, storeListOf, writeFileOf}
+use Rattle.file_commands.specs.WriteFile.{listed, filesOf, filesStored, judgeListOf, storage, storeListOf, StoringLeaves, writeFileOf}
 
 -- what it is to be fit
 pub record Fit (limit : ℕ) (list : List ℕ) : Type 0 where
@@ -21,11 +22,6 @@ pub record Fit (limit : ℕ) (list : List ℕ) : Type 0 where
   pub some : 0 < length list
   pub short : length list ≤ limit
   pub whole : isWhole (listed list) ≡ true
-
--- both of two
-both : (a b : Bool) → a && b ≡ true → (a ≡ true) × (b ≡ true)
-both true b e = (refl, e)
-both false b e = absurd (false≢true e)
 
 module _ (limit : ℕ) (list : List ℕ) where
   pub what-is-fit : judgeListOf limit list ≡ true → Fit limit list
@@ -43,16 +39,14 @@ module _ (limit : ℕ) (list : List ℕ) where
         whole = third .1;
       }
 
-  pub so-it-is-fit : Fit limit list → judgeListOf limit list ≡ true
+  -- what is neither empty nor too long is judged by how it ends
+  pub judged-by-its-end : leastLimit ≤ limit → limit ≤ longestData → 0 < length list → length list ≤ limit → judgeListOf limit list ≡ isWhole (listed list)
   unfolding judgeListOf
-  so-it-is-fit fit =
-      simp (
-        le-leb leastLimit limit (fit .least),
-        le-leb limit longestData (fit .most),
-        lt-ltb 0 (length list) (fit .some),
-        le-leb (length list) limit (fit .short),
-        fit .whole,
-      )
+  judged-by-its-end least most some short =
+      simp (le-leb leastLimit limit least, le-leb limit longestData most, lt-ltb 0 (length list) some, le-leb (length list) limit short)
+
+  pub so-it-is-fit : Fit limit list → judgeListOf limit list ≡ true
+  so-it-is-fit fit = judged-by-its-end (fit .least) (fit .most) (fit .some) (fit .short) ∙ fit .whole
 
   pub unfit : (Fit limit list → ⊥) → judgeListOf limit list ≡ false
   unfit never = apart (judgeListOf limit list) refl
@@ -77,28 +71,34 @@ module _ (limit : ℕ) (edac list : List ℕ) where
     unfolding storeListOf
     an-unfit-list-is-not-stored unfit = simp (eq-eqb (length edac) edacSize size, unfit)
 
-    -- and by what storing says it is told which of them it was
-    pub said-to-be-stored : (after : List ℕ) → storage 0 after ≡ storeListOf limit edac list
-        → (judgeListOf limit list ≡ true) × (after ≡ filesStored edac (listed list))
-    said-to-be-stored after said = apart (judgeListOf limit list) refl
-      where
-        apart : (b : Bool) → judgeListOf limit list ≡ b → (judgeListOf limit list ≡ true) × (after ≡ filesStored edac (listed list))
-        apart true e = (e, ap (λ (s : Storage). s .edac) (said ∙ a-fit-list-is-stored e))
-        apart false e = absurd (omega (arith, ap (λ (s : Storage). s .answer) (said ∙ an-unfit-list-is-not-stored e)))
-
-    pub said-to-be-unfit : (after : List ℕ) → storage 4 after ≡ storeListOf limit edac list → (judgeListOf limit list ≡ false) × (after ≡ edac)
-    said-to-be-unfit after said = apart (judgeListOf limit list) refl
-      where
-        apart : (b : Bool) → judgeListOf limit list ≡ b → (judgeListOf limit list ≡ false) × (after ≡ edac)
-        apart true e = absurd (omega (arith, ap (λ (s : Storage). s .answer) (said ∙ a-fit-list-is-stored e)))
-        apart false e = (e, ap (λ (s : Storage). s .edac) (said ∙ an-unfit-list-is-not-stored e))
-
-    pub never-said-to-be-wrong : (after : List ℕ) → storage 21 after ≡ storeListOf limit edac list → ⊥
-    never-said-to-be-wrong after said = apart (judgeListOf limit list) refl
-      where
-        apart : (b : Bool) → judgeListOf limit list ≡ b → ⊥
-        apart true e = omega (arith, ap (λ (s : Storage). s .answer) (said ∙ a-fit-list-is-stored e))
-        apart false e = omega (arith, ap (λ (s : Storage). s .answer) (said ∙ an-unfit-list-is-not-stored e))
+pub what-storing-leaves : (limit : ℕ) (edac list : List ℕ) → StoringLeaves limit edac list (storeListOf limit edac list)
+what-storing-leaves limit edac list = by (eqb (length edac) edacSize) (judgeListOf limit list) refl refl
+  where
+    by : (long fit : Bool) → eqb (length edac) edacSize ≡ long → judgeListOf limit list ≡ fit → StoringLeaves limit edac list (storeListOf limit edac list)
+    by true true el ef =
+        let size = eqb-true (length edac) edacSize el in
+        subst (StoringLeaves limit edac list) (sym (a-fit-list-is-stored limit edac list size ef)) (record {
+          stored = λ _. (size, ef, refl);
+          unfit = λ e. absurd (omega arith);
+          wrong = λ e. absurd (omega arith);
+          no-other = inl refl;
+        })
+    by true false el ef =
+        let size = eqb-true (length edac) edacSize el in
+        subst (StoringLeaves limit edac list) (sym (an-unfit-list-is-not-stored limit edac list size ef)) (record {
+          stored = λ e. absurd (omega arith);
+          unfit = λ _. (size, ef, refl);
+          wrong = λ e. absurd (omega arith);
+          no-other = inr (inl refl);
+        })
+    by false fit el ef =
+        let wrong = eqb-false (length edac) edacSize el in
+        subst (StoringLeaves limit edac list) (sym (wrong-EDAC-memory-is-left limit edac list wrong)) (record {
+          stored = λ e. absurd (omega arith);
+          unfit = λ e. absurd (omega arith);
+          wrong = λ _. (wrong, refl);
+          no-other = inr (inr refl);
+        })
 
 -- ---- the command
 
@@ -111,11 +111,3 @@ module _ (room : ℕ) (edac field : List ℕ) where
   pub an-unfit-list-is-refused : judgeListOf room field ≡ false → writeFileOf room edac field ≡ refused
   unfolding writeFileOf
   an-unfit-list-is-refused unfit = simp unfit
-
-  -- 02, T-11: judging says yes exactly where the command is done, for any list, memory and limit.
-  pub judging-says-what-is-done : judgeListOf room field ≡ isDone (writeFileOf room edac field)
-  judging-says-what-is-done = apart (judgeListOf room field) refl
-    where
-      apart : (b : Bool) → judgeListOf room field ≡ b → judgeListOf room field ≡ isDone (writeFileOf room edac field)
-      apart true e = e ∙ sym (ap isDone (a-fit-list-is-written e))
-      apart false e = e ∙ sym (ap isDone (an-unfit-list-is-refused e))

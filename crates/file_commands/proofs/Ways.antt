@@ -1,10 +1,10 @@
 -- One law for each way through a command's function, on a list from a place of the data field on. Assumes nothing.
-use mathlib.Core.Path.{_≡_, sym, ap, _∙_}
+use mathlib.Core.Path.{_≡_, refl, sym, ap, _∙_, subst}
 use mathlib.Core.Bool.{Bool, true, false}
 use mathlib.Core.List.{List}
 use Prim.Native.Nat.{ℕ, _-_, _≤_, _<_}
 use native.Mathlib.Omega.{arith}
-use borrow.Author.Tests.{lt-ltb, le-ltb, le-leb, leb-true, leb-false, eq-eqb, ne-eqb}
+use borrow.Author.Tests.{lt-ltb, le-ltb, leb-true, leb-false, eq-eqb, ne-eqb}
 use lib.Dec.{leb}
 use lib.ListN.{length, drop, length-drop}
 use Rattle.memory.specs.Bytes.{begun}
@@ -16,8 +16,8 @@ use Rattle.carrying.proofs.Writing.{is-done, is-done-storing, is-refused}
 use Rattle.file_commands.specs.ReadFile.{filesShown, filesWidth, readFileOf}
 use Rattle.file_commands.specs.declared.write_file.Storing.{Storing}
 use Rattle.file_commands.specs.declared.write_file.Storing.the-variants.{Stored, Unfit, BadEdac}
-use Rattle.file_commands.specs.WriteFile.{listed, filesOf, filesStored, judgeListOf, storage, storageOf, storeListOf, writeFileOf}
-use Rattle.file_commands.proofs.Judging.{what-is-fit, unfit, wrong-EDAC-memory-is-left, a-fit-list-is-stored, an-unfit-list-is-not-stored, said-to-be-stored, said-to-be-unfit, never-said-to-be-wrong, a-fit-list-is-written, an-unfit-list-is-refused}
+use Rattle.file_commands.specs.WriteFile.{listed, filesOf, filesStored, judgeListOf, storage, storageOf, storeListOf, StoringLeaves, writeFileOf}
+use Rattle.file_commands.proofs.Judging.{what-is-fit, judged-by-its-end, unfit, wrong-EDAC-memory-is-left, a-fit-list-is-stored, an-unfit-list-is-not-stored, what-storing-leaves, a-fit-list-is-written, an-unfit-list-is-refused}
 
 module _ (room : ℕ) (edac field reply : List ℕ) (at : ℕ) where
   nothing-left : length field ≤ at → length (drop at field) ≡ 0
@@ -53,7 +53,7 @@ module _ (room : ℕ) (edac field reply : List ℕ) (at : ℕ) where
 
 -- ---- WRITE FILE
 
--- what is left of a list, by its own length
+-- judging, by one law for each test
 module _ (limit : ℕ) (list : List ℕ) (start : ℕ) where
   pub a-limit-too-low : limit < leastLimit → false ≡ judgeListOf limit (drop start list)
   a-limit-too-low low = sym (unfit limit (drop start list) (λ fit. let least = fit .least in omega arith))
@@ -73,16 +73,11 @@ module _ (limit : ℕ) (list : List ℕ) (start : ℕ) where
 
   pub a-list-of-some-length : leastLimit ≤ limit → limit ≤ longestData → start < length list → length list - start ≤ limit → (answer : Bool)
       → answer ≡ isWhole (listed (drop start list)) → answer ≡ judgeListOf limit (drop start list)
-  unfolding judgeListOf
   a-list-of-some-length least most some short answer judged =
       let rest = length-drop start list in
-      simp (
-        le-leb leastLimit limit least,
-        le-leb limit longestData most,
-        lt-ltb 0 (length (drop start list)) (omega arith),
-        le-leb (length (drop start list)) limit (omega arith),
-      ) judged
+      judged ∙ sym (judged-by-its-end limit (drop start list) least most (omega arith) (omega arith))
 
+-- storing, by one law for each way
 module _ (limit : ℕ) (edac list : List ℕ) (start : ℕ) where
   pub to-wrong-EDAC-memory : (length edac ≡ edacSize → ⊥) → storageOf BadEdac edac ≡ storeListOf limit edac (drop start list)
   to-wrong-EDAC-memory wrong = sym (wrong-EDAC-memory-is-left limit edac (drop start list) wrong)
@@ -93,35 +88,35 @@ module _ (limit : ℕ) (edac list : List ℕ) (start : ℕ) where
     a-fit-list after fit stores = ap (storage 0) stores ∙ sym (a-fit-list-is-stored limit edac (drop start list) size (sym judged ∙ fit))
 
     pub an-unfit-list : answer ≡ false → storageOf Unfit edac ≡ storeListOf limit edac (drop start list)
-    an-unfit-list cut = sym (an-unfit-list-is-not-stored limit edac (drop start list) size (sym judged ∙ cut))
+    an-unfit-list refuses = sym (an-unfit-list-is-not-stored limit edac (drop start list) size (sym judged ∙ refuses))
 
 -- the command, by what storing answered
 module _ (room : ℕ) (edac field reply : List ℕ) (at : ℕ) (size : length edac ≡ edacSize) (storing : Storing) (memory : List ℕ)
     (said : storageOf storing memory ≡ storeListOf room edac (drop at field)) where
-  told : (is : Storing) → storing ≡ is → storageOf is memory ≡ storeListOf room edac (drop at field)
-  told is e = ap (λ s. storageOf s memory) (sym e) ∙ said
+  told : (is : Storing) → storing ≡ is → StoringLeaves room edac (drop at field) (storageOf is memory)
+  told is e = subst (StoringLeaves room edac (drop at field)) (sym (ap (λ s. storageOf s memory) (sym e) ∙ said)) (what-storing-leaves room edac (drop at field))
 
   pub room-for-the-list : storing ≡ Stored → room ≤ length reply → length field - at ≤ length reply
   room-for-the-list is roomy =
       let rest = length-drop at field in
-      let fit = what-is-fit room (drop at field) (said-to-be-stored room edac (drop at field) size memory (told Stored is) .0) in
+      let fit = what-is-fit room (drop at field) (told Stored is .stored refl .1) in
       omega (arith, fit .short)
 
   pub files-are-written : storing ≡ Stored → (n : ℕ) (buffer : List ℕ)
       → (n ≡ length (filesShown memory (filesOf (listed (drop at field))))) × (buffer ≡ begun reply (filesShown memory (filesOf (listed (drop at field)))))
       → left (Done n) buffer memory ≡ leaves (writeFileOf room edac (drop at field)) reply edac
   files-are-written is n buffer shown =
-      let so = said-to-be-stored room edac (drop at field) size memory (told Stored is) in
+      let so = told Stored is .stored refl in
       is-done-storing (writeFileOf room edac (drop at field)) _ buffer reply n memory _ edac
-      (a-fit-list-is-written room edac (drop at field) (so .0))
-      (so .1)
-      (sym (shown .0 ∙ ap (λ l. length (filesShown l (filesOf (listed (drop at field))))) (so .1)))
-      (shown .1 ∙ ap (λ l. begun reply (filesShown l (filesOf (listed (drop at field))))) (so .1))
+      (a-fit-list-is-written room edac (drop at field) (so .1))
+      (so .2)
+      (sym (shown .0 ∙ ap (λ l. length (filesShown l (filesOf (listed (drop at field))))) (so .2)))
+      (shown .1 ∙ ap (λ l. begun reply (filesShown l (filesOf (listed (drop at field))))) (so .2))
 
   pub files-are-not-written : storing ≡ Unfit → left Refused reply memory ≡ leaves (writeFileOf room edac (drop at field)) reply edac
   files-are-not-written is =
-      let so = said-to-be-unfit room edac (drop at field) size memory (told Unfit is) in
-      ap (left Refused reply) (so .1) ∙ is-refused (writeFileOf room edac (drop at field)) reply edac (an-unfit-list-is-refused room edac (drop at field) (so .0))
+      let so = told Unfit is .unfit refl in
+      ap (left Refused reply) (so .2) ∙ is-refused (writeFileOf room edac (drop at field)) reply edac (an-unfit-list-is-refused room edac (drop at field) (so .1))
 
   pub memory-is-never-wrong : storing ≡ BadEdac → left Refused reply memory ≡ leaves (writeFileOf room edac (drop at field)) reply edac
-  memory-is-never-wrong is = absurd (never-said-to-be-wrong room edac (drop at field) size memory (told BadEdac is))
+  memory-is-never-wrong is = absurd (told BadEdac is .wrong refl .0 size)

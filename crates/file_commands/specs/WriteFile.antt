@@ -1,6 +1,8 @@
 -- WRITE FILE 0x08 (01, "Commands"; 02, T-02 and T-11; ICD 11.12): judging a list, storing a judged one, and the command. Assumes nothing.
 use Prim.Native.Nat.{ℕ}
-use mathlib.Core.Bool.{Bool, cond, _&&_}
+use mathlib.Core.Path.{_≡_}
+use mathlib.Core.Bool.{Bool, true, false, cond, _&&_}
+use mathlib.Core.Logic.{_⊎_}
 use mathlib.Core.List.{List, [], _∷_}
 use lib.Dec.{eqb, ltb, leb}
 use lib.ListN.{length, getD, drop}
@@ -62,6 +64,13 @@ storeListOf limit edac list =
     cond (eqb (length edac) edacSize)
     (cond (judgeListOf limit list) (storage 0 (filesStored edac (listed list))) (storage 4 edac))
     (storage 21 edac)
+
+-- The same by the answer: the store of the very list that was lent, or nothing.
+pub record StoringLeaves (limit : ℕ) (edac list : List ℕ) (s : Storage) : Type 0 where
+  pub stored : s .answer ≡ 0 → (length edac ≡ edacSize) × (judgeListOf limit list ≡ true) × (s .edac ≡ filesStored edac (listed list))
+  pub unfit : s .answer ≡ 4 → (length edac ≡ edacSize) × (judgeListOf limit list ≡ false) × (s .edac ≡ edac)
+  pub wrong : s .answer ≡ 21 → (length edac ≡ edacSize → ⊥) × (s .edac ≡ edac)
+  pub no-other : (s .answer ≡ 0) ⊎ ((s .answer ≡ 4) ⊎ (s .answer ≡ 21))
 
 -- ---- the command
 
