@@ -21,7 +21,6 @@ use Rattle.field.specs.Reading.{isWhole}
 use Rattle.file_commands.specs.ReadFile.{filesShown}
 use Rattle.file_commands.specs.WriteFile.{listed, filesOf, filesStored, judgeListOf, Storage, storeListOf, writeFileOf}
 use Rattle.file_commands.proofs.Judging.{what-is-fit, so-it-is-fit, a-fit-list-is-written, an-unfit-list-is-refused, a-fit-list-is-stored, an-unfit-list-is-not-stored}
-use Rattle.command.proofs.Codes.{in-application}
 use Rattle.answer.specs.Answers.{numberOf}
 use Rattle.judging.specs.declared.Unit.{Unit}
 use Rattle.judging.specs.Judging.{withReceiver}
@@ -33,26 +32,21 @@ use Rattle.demands.specs.Calls.{Call, Fed, lentTo}
 use Rattle.demands.specs.Orders.{SendsUpTo, Sends, withItsMessage, leftBy, doneAnswer, refusedAnswer, cameTo}
 use Rattle.demands.specs.Asking.{listAnswer}
 use Rattle.demands.proofs.DemandTwo.{a-call-that-suits-fits, sealed-size, a-packed-message-too-long-is-dropped}
-use Rattle.demands.proofs.Orders.{what-a-sent-command-leaves}
+use Rattle.demands.proofs.Orders.{a-WRITE-FILE-comes-to, what-a-sent-command-leaves}
 use Rattle.demands.proofs.Doing.{a-command-that-is-done-answers-so}
 
 -- ---- the command, on whatever a call lends
 
 module _ (u : Unit) (c : Call) (control : ℕ) (list : List ℕ) (code : codeOf control ≡ 0x08) (mode : u .mode ≡ Application) where
-  its-row : cameTo u c control list ≡ onEdac (heldOf u (c .lent)) (writeFileOf longestData (c .lent .edac) list)
-  its-row =
-      in-application longestData firstOfFram (codeOf control) (c .lent .diagnostics) (heldOf u (c .lent)) list 0x08
-      (onEdac (heldOf u (c .lent)) (writeFileOf longestData (c .lent .edac) list)) code mode refl
-
   -- A list that is judged fit is done, and stored as storing stores it;
   pub a-list-judged-fit-is-done : judgeListOf longestData list ≡ true
       → let after = filesStored (c .lent .edac) (listed list) in
       cameTo u c control list ≡ done (filesShown after (filesOf (listed list))) (held (u .mode) after (kept (c .lent .fram) (c .lent .sums)))
-  a-list-judged-fit-is-done fit = its-row ∙ ap (onEdac (heldOf u (c .lent))) (a-fit-list-is-written longestData (c .lent .edac) list fit)
+  a-list-judged-fit-is-done fit = a-WRITE-FILE-comes-to u c control list code mode ∙ ap (onEdac (heldOf u (c .lent))) (a-fit-list-is-written longestData (c .lent .edac) list fit)
 
   -- any other is refused.
   pub a-list-judged-unfit-is-refused : judgeListOf longestData list ≡ false → cameTo u c control list ≡ refused
-  a-list-judged-unfit-is-refused unfit = its-row ∙ ap (onEdac (heldOf u (c .lent))) (an-unfit-list-is-refused longestData (c .lent .edac) list unfit)
+  a-list-judged-unfit-is-refused unfit = a-WRITE-FILE-comes-to u c control list code mode ∙ ap (onEdac (heldOf u (c .lent))) (an-unfit-list-is-refused longestData (c .lent .edac) list unfit)
 
 -- ---- on the line
 

@@ -26,7 +26,7 @@ use Rattle.carrying.proofs.Room.{either-way}
 use Rattle.fram_commands.specs.Poke.{pokeOf}
 use Rattle.fram_commands.proofs.Ways.{poke-inside}
 use Rattle.file_commands.specs.ReadFile.{filesShown}
-use Rattle.file_commands.specs.WriteFile.{listed, filesOf, filesStored, writeFileOf}
+use Rattle.file_commands.specs.WriteFile.{listed, filesOf, filesStored}
 use Rattle.file_commands.specs.Storing.{ofFiles}
 use Rattle.file_commands.proofs.Judging.{so-it-is-fit, a-fit-list-is-written}
 use Rattle.file_commands.proofs.Storing.{a-byte-of-no-file-stays}
@@ -41,7 +41,7 @@ use Rattle.unit.specs.World.{World, Outcome, heldOf}
 use Rattle.unit.specs.Steps.{firstOfFram, answered}
 use Rattle.demands.specs.Calls.{Call, Fed}
 use Rattle.demands.specs.Orders.{Sends, withItsMessage, leftBy, sentBy, doneAnswer, cameTo}
-use Rattle.demands.proofs.Orders.{each-a-byte, a-sent-command-is-carried-out, a-command-that-is-done-sends-its-data, edac-is-whole}
+use Rattle.demands.proofs.Orders.{each-a-byte, a-WRITE-FILE-comes-to, a-sent-command-is-carried-out, a-command-that-is-done-sends-its-data, edac-is-whole}
 
 module _ (u : Unit) (message : List ℕ) (source control : ℕ) (field : List ℕ) (calls : List Call) (c : Call) (sends : Sends u message source control field calls c) where
   abbrev laid : World
@@ -135,8 +135,7 @@ module _ (u : Unit) (message : List ℕ) (source control : ℕ) (list : List ℕ
 
   files-came : cameTo u c control list ≡ done (filesShown filed (filesOf (listed list))) (held (u .mode) filed (kept (c .lent .fram) (c .lent .sums)))
   files-came =
-      in-application longestData firstOfFram (codeOf control) (c .lent .diagnostics) (heldOf u (c .lent)) list 0x08
-      (onEdac (heldOf u (c .lent)) (writeFileOf longestData (c .lent .edac) list)) code mode refl
+      a-WRITE-FILE-comes-to u c control list code mode
       ∙ ap (onEdac (heldOf u (c .lent))) (a-fit-list-is-written longestData (c .lent .edac) list
       (so-it-is-fit longestData list (record { least = omega arith; most = omega arith; some = some; short = sends .short; whole = whole })))
 

@@ -9,17 +9,20 @@ use lib.ListN.{length, getD}
 use Rattle.line.specs.Packing.{packedOf}
 use Rattle.line.specs.Receiver.{opened}
 use Rattle.memory.specs.Edac.{edacSize}
-use Rattle.carrying.specs.Ending.{Ending, done, refused, unfitted}
-use Rattle.carrying.specs.Held.{Held}
+use Rattle.carrying.specs.declared.Mode.the-variants.{Application}
+use Rattle.carrying.specs.Ending.{longestData, Ending, done, refused, unfitted}
+use Rattle.carrying.specs.Held.{Held, onEdac}
 use Rattle.carrying.proofs.Room.{either-way}
+use Rattle.file_commands.specs.WriteFile.{writeFileOf}
+use Rattle.command.proofs.Codes.{in-application}
 use Rattle.answer.specs.declared.Answer.the-variants.{Elsewhere}
 use Rattle.answer.specs.Answers.{numberOf}
 use Rattle.judging.specs.declared.Unit.{Unit}
 use Rattle.judging.specs.Judging.{withReceiver}
 use Rattle.judging.proofs.Serving.{a-served-step-fits}
-use Rattle.replying.specs.Replies.{polls, replyMessage, Said, saying, saidOf}
-use Rattle.unit.specs.World.{World, lengthsOf, Outcome, outcome}
-use Rattle.unit.specs.Steps.{answered, orderedOf}
+use Rattle.replying.specs.Replies.{codeOf, polls, replyMessage, Said, saying, saidOf}
+use Rattle.unit.specs.World.{World, lengthsOf, Outcome, outcome, heldOf}
+use Rattle.unit.specs.Steps.{firstOfFram, answered, orderedOf}
 use Rattle.demands.specs.Calls.{Call, Fed, lentTo, fedOf, delivering, Bytes}
 use Rattle.demands.specs.Orders.{Sends, withItsMessage, leftBy, sentBy, cameTo}
 use Rattle.demands.proofs.DemandTwo.{a-packed-command-is-carried-out, what-is-sent-is-the-packed-answer, a-call-that-suits-fits}
@@ -32,6 +35,13 @@ each-a-byte (byte ∷ l) all (suc i) = each-a-byte l (all .1) i
 
 done-is-no-fault : {M : Type 0} {reply : List ℕ} {after : M} → done reply after ≡ unfitted → ⊥
 done-is-no-fault e = let z : _≡_ {A = ℕ} 0 1 = cc in absurd (omega arith)
+
+-- what a WRITE FILE comes to in application mode
+pub a-WRITE-FILE-comes-to : (u : Unit) (c : Call) (control : ℕ) (list : List ℕ) → codeOf control ≡ 0x08 → u .mode ≡ Application
+    → cameTo u c control list ≡ onEdac (heldOf u (c .lent)) (writeFileOf longestData (c .lent .edac) list)
+a-WRITE-FILE-comes-to u c control list code mode =
+    in-application longestData firstOfFram (codeOf control) (c .lent .diagnostics) (heldOf u (c .lent)) list 0x08
+    (onEdac (heldOf u (c .lent)) (writeFileOf longestData (c .lent .edac) list)) code mode refl
 
 -- what is known of a command that answered 1 or 2
 pub record WasDone (o : Outcome) (came : Ending Held) : Type 0 where

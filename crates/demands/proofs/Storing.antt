@@ -41,7 +41,7 @@ use Rattle.unit.specs.World.{heldOf}
 use Rattle.unit.specs.Steps.{firstOfFram}
 use Rattle.demands.specs.Calls.{Call, Bytes}
 use Rattle.demands.specs.Orders.{Sends, leftBy, sentBy, cameTo, withFram, withEdac, showing}
-use Rattle.demands.proofs.Orders.{each-a-byte, WasDone, a-command-that-is-done-sends-its-data, edac-is-whole, a-command-answered-so-was-done}
+use Rattle.demands.proofs.Orders.{each-a-byte, a-WRITE-FILE-comes-to, WasDone, a-command-that-is-done-sends-its-data, edac-is-whole, a-command-answered-so-was-done}
 
 -- ---- a part of what is held
 
@@ -284,8 +284,7 @@ module _ (u : Unit) (message : List ℕ) (source control : ℕ) (list : List ℕ
   abbrev filed : Wrote (writeFileOf longestData (c .lent .edac) list) (leftBy u message calls c .world .edac)
   filed =
       wrote-so u message source control list calls c sends was-done (omega (arith, code)) (writeFileOf longestData (c .lent .edac) list)
-      (λ application. in-application longestData firstOfFram (codeOf control) (c .lent .diagnostics) (heldOf u (c .lent)) list 0x08
-      (onEdac (heldOf u (c .lent)) (writeFileOf longestData (c .lent .edac) list)) code application refl)
+      (a-WRITE-FILE-comes-to u c control list code)
 
   reads-files : (control′ : ℕ) → codeOf control′ ≡ 0x07 → (e : Call) (asked : List ℕ)
       → cameTo v e control′ asked ≡ reading (heldOf v (e .lent)) (readFileOf longestData (e .lent .edac) asked)
