@@ -2,12 +2,10 @@
 -- any length, and any memory. Assumes nothing.
 use mathlib.Core.Path.{_≡_, refl, sym, ap, _∙_, subst}
 use mathlib.Core.Bool.{Bool, true, false, cond}
-use mathlib.Core.Logic.{inl, inr}
 use mathlib.Core.List.{List, _∷_}
 use Prim.Native.Nat.{ℕ, _≤_, _<_}
 use native.Mathlib.Omega.{arith}
-use borrow.Author.Tests.{le-leb, lt-leb, eqb-true, eqb-false}
-use lib.Dec.{eqb}
+use borrow.Author.Tests.{le-leb, lt-leb}
 use lib.ListN.{length}
 use Rattle.line.specs.Receiver.{opened}
 use Rattle.memory.specs.Edac.{edacSize}
@@ -19,7 +17,7 @@ use Rattle.carrying.proofs.Room.{either-way}
 use Rattle.blocks.specs.Fram.{kept}
 use Rattle.field.specs.Reading.{isWhole}
 use Rattle.file_commands.specs.ReadFile.{filesShown}
-use Rattle.file_commands.specs.WriteFile.{listed, filesOf, filesStored, judgeListOf, Storage, storeListOf, writeFileOf}
+use Rattle.file_commands.specs.WriteFile.{listed, filesOf, filesStored, judgeListOf, Storage, storeListOf}
 use Rattle.file_commands.proofs.Judging.{what-is-fit, so-it-is-fit, a-fit-list-is-written, an-unfit-list-is-refused, a-fit-list-is-stored, an-unfit-list-is-not-stored}
 use Rattle.answer.specs.Answers.{numberOf}
 use Rattle.judging.specs.declared.Unit.{Unit}
@@ -27,7 +25,7 @@ use Rattle.judging.specs.Judging.{withReceiver}
 use Rattle.replying.specs.Replies.{codeOf, polls, sealed, Said, saying, saidOf}
 use Rattle.judging.proofs.Serving.{a-served-step-fits}
 use Rattle.unit.specs.World.{lengthsOf, Outcome, heldOf}
-use Rattle.unit.specs.Steps.{firstOfFram, answered, servedOf}
+use Rattle.unit.specs.Steps.{answered, servedOf}
 use Rattle.demands.specs.Calls.{Call, Fed, lentTo}
 use Rattle.demands.specs.Orders.{SendsUpTo, Sends, withItsMessage, leftBy, doneAnswer, refusedAnswer, cameTo}
 use Rattle.demands.specs.Asking.{listAnswer}
