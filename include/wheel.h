@@ -23,8 +23,10 @@ extern "C" {
 #define WHEEL_MESSAGE 1033u      /* uint8_t, at least */
 #define WHEEL_REPLY 2068u        /* uint8_t, at least */
 
-/* The limit of a unit: the most data bytes of a message on its bus. */
-#define WHEEL_LIMIT 1028u
+/* The limit of a unit: the most data bytes of a message on its bus, in commands and in replies. What is lent has the same lengths
+ * under every limit. */
+#define WHEEL_LIMIT_LEAST 260u
+#define WHEEL_LIMIT_MOST 1028u
 
 /* The numbers of the answers. Only WHEEL_ACKED, WHEEL_NACKED and a packing that is WHEEL_TAKEN have bytes to send. */
 #define WHEEL_TAKEN 0u            /* set up; packed; joined; list stored; byte taken, or an empty run closed */
@@ -34,7 +36,7 @@ extern "C" {
 #define WHEEL_REFUSED_SILENT 4u   /* command refused, poll clear; storing: the list is unfit */
 #define WHEEL_FRAMING 5u          /* run dropped: framing (diagnostic 0x07) */
 #define WHEEL_RUNT 6u             /* run dropped: under 5 bytes (diagnostic 0x08) */
-#define WHEEL_OVERSIZE 7u         /* run dropped: over 1,033 bytes (diagnostic 0x09) */
+#define WHEEL_OVERSIZE 7u         /* run dropped: over limit + 5 bytes (diagnostic 0x09) */
 #define WHEEL_BAD_CRC 8u          /* run dropped: the CRC does not agree (diagnostic 0x0A) */
 #define WHEEL_ELSEWHERE 9u        /* sound message for another address */
 #define WHEEL_UNFITTED 10u        /* access to memory not fitted */
@@ -45,6 +47,7 @@ extern "C" {
 #define WHEEL_BAD_DIAGNOSTICS 24u /* wrong length of the diagnostics */
 #define WHEEL_BAD_BUFFERS 25u     /* wrong length of the message or reply buffer */
 #define WHEEL_BAD_COUNT 26u       /* receiver record with a count above 1,034 */
+#define WHEEL_BAD_LIMIT 29u       /* limit below WHEEL_LIMIT_LEAST or above WHEEL_LIMIT_MOST */
 #define WHEEL_BAD_LENGTH 35u      /* packing: message under 5 or over 1,033 bytes */
 #define WHEEL_TOO_LONG 36u        /* joining: the total length is above 4,294,967,295 */
 
@@ -62,10 +65,11 @@ extern "C" {
 #define WHEEL_CRC_START 0xFFFFu
 
 /* What a unit is between two calls. The caller keeps it, and hands the one it got last to the next call. Every record has
- * a meaning; one that no call handed back may be answered with 20, 22 or 26. */
+ * a meaning; one that no call handed back may be answered with 20, 22, 26 or 29. */
 struct wheel_unit {
     uint64_t fram_len; /* the length of FRAM that was set up, in bytes */
-    uint64_t count;    /* the bytes unpacked in this run, at most 1,034 */
+    uint64_t count;    /* the bytes unpacked in this run, at most limit + 6 */
+    uint16_t limit;    /* the most data bytes of a message, as it was set up */
     uint8_t address;
     uint8_t mode;      /* WHEEL_BOOTLOADER or WHEEL_APPLICATION */
     uint8_t place;     /* WHEEL_FRESH to WHEEL_FAULT */
@@ -76,7 +80,7 @@ struct wheel_unit {
 struct wheel_stepped {
     struct wheel_unit unit;
     uint64_t sent;
-    uint8_t answer; /* WHEEL_TAKEN to WHEEL_BAD_COUNT */
+    uint8_t answer; /* WHEEL_TAKEN to WHEEL_BAD_LIMIT */
 };
 
 /* What packing gives back: how many bytes are to be sent from the start of the reply buffer, and the number. */
@@ -97,18 +101,19 @@ struct wheel_joined {
     struct wheel_part part;
 };
 
-/* Sets a unit up: writes the sum of each block of FRAM, and hands back a record in bootloader mode with a fresh receiver and
- * WHEEL_TAKEN. Nothing else that is lent changes. Or WHEEL_BAD_ADDRESS to WHEEL_BAD_BUFFERS, lowest number first: then
- * nothing at all changes, and the record has address 0, so that every later call with it is refused. */
-struct wheel_stepped wheel_set_up(uint8_t address, const uint8_t *edac, size_t edac_len, const uint8_t *fram,
-                                  size_t fram_len, uint16_t *sums, size_t sums_len, const uint32_t *diagnostics,
-                                  size_t diagnostics_len, const uint8_t *message, size_t message_len,
-                                  const uint8_t *reply, size_t reply_len);
+/* Sets a unit up, with an address and a limit: WHEEL_LIMIT_MOST, or less where the bus allows less. Writes the sum of each
+ * block of FRAM, and hands back a record in bootloader mode with a fresh receiver and WHEEL_TAKEN. Nothing else that is lent
+ * changes. Or WHEEL_BAD_ADDRESS to WHEEL_BAD_BUFFERS or WHEEL_BAD_LIMIT, lowest number first: then nothing at all changes, and
+ * the record has address 0 and limit 0, so that every later call with it is refused. */
+struct wheel_stepped wheel_set_up(uint8_t address, uint64_t limit, const uint8_t *edac, size_t edac_len,
+                                  const uint8_t *fram, size_t fram_len, uint16_t *sums, size_t sums_len,
+                                  const uint32_t *diagnostics, size_t diagnostics_len, const uint8_t *message,
+                                  size_t message_len, const uint8_t *reply, size_t reply_len);
 
 /* One byte from the line. It may write any of the six. The sums must be those of this FRAM, as set-up and earlier calls left
  * them, and while a run is open the message buffer is to be left alone; the rest may be another at each call. Where it answers
  * WHEEL_ACKED or WHEEL_NACKED, the first `sent` bytes of the reply buffer are to be sent; the others of that buffer, and
- * all of it where nothing is sent, are as they were. With WHEEL_BAD_ADDRESS to WHEEL_BAD_COUNT, lowest number first, nothing
+ * all of it where nothing is sent, are as they were. With WHEEL_BAD_ADDRESS to WHEEL_BAD_LIMIT, lowest number first, nothing
  * at all changes and the byte is lost; the record comes back with its mode and place as they are read (see above).
  *
  * The bytes of EDAC that the ICD's prose calls read-only, as SPEED's, keep their value whatever comes on the line. That a byte
@@ -125,8 +130,8 @@ struct wheel_stepped wheel_step(struct wheel_unit unit, uint8_t byte, uint8_t *e
 struct wheel_packed wheel_pack(const uint8_t *message, size_t message_len, uint8_t *reply, size_t reply_len);
 
 /* A WRITE FILE as two operations that need no unit. A list is the data of a WRITE FILE: for each file its address and four
- * bytes, for file 0 its address, the mode byte and four bytes. `limit` is the unit's: WHEEL_LIMIT. A list that is empty, that
- * ends inside a file or that is longer than the limit is unfit, and with a limit below 260 or above WHEEL_LIMIT every list is.
+ * bytes, for file 0 its address, the mode byte and four bytes. `limit` is the unit's. A list that is empty, that ends inside
+ * a file or that is longer than the limit is unfit, and with a limit that no unit has every list is.
  *
  * Judging answers 1 where the list is fit, else 0: with the unit's limit, 1 exactly where that unit in application mode would
  * ACK a WRITE FILE of it, whatever its memory holds. Nothing is written. */

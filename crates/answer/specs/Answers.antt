@@ -1,7 +1,7 @@
--- 01, "One byte in, one answer out": the number of each answer, and how many bytes it sends. Assumes nothing.
+-- 01, "One byte in, one answer out", and 29 by 02, T-06: the number of each answer, and how many bytes it sends. Assumes nothing.
 use Prim.Native.Nat.{ℕ}
 use Rattle.answer.specs.declared.Answer.{Answer}
-use Rattle.answer.specs.declared.Answer.the-variants.{Taken, Acked, Done, Nacked, Refused, Framing, Runt, Oversize, BadCrc, Elsewhere, Unfitted, BadAddress, BadEdac, BadFram, BadSums, BadDiagnostics, BadBuffers, BadCount}
+use Rattle.answer.specs.declared.Answer.the-variants.{Taken, Acked, Done, Nacked, Refused, Framing, Runt, Oversize, BadCrc, Elsewhere, Unfitted, BadAddress, BadEdac, BadFram, BadSums, BadDiagnostics, BadBuffers, BadCount, BadLimit}
 
 abbrev pub numberOf : Answer → ℕ
 numberOf Taken = 0
@@ -22,6 +22,7 @@ numberOf BadSums = 23
 numberOf BadDiagnostics = 24
 numberOf BadBuffers = 25
 numberOf BadCount = 26
+numberOf BadLimit = 29
 
 abbrev pub sentOf : Answer → ℕ
 sentOf Taken = 0
@@ -42,3 +43,4 @@ sentOf BadSums = 0
 sentOf BadDiagnostics = 0
 sentOf BadBuffers = 0
 sentOf BadCount = 0
+sentOf BadLimit = 0

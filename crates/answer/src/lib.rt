@@ -21,8 +21,8 @@ pub enum Answer {
     Elsewhere,
     // An access to memory not fitted.
     Unfitted,
-    // A call refused: the unit's address, the length of EDAC memory, FRAM, sums, diagnostics, message or reply buffer, and the
-    // receiver's count.
+    // A call refused: the unit's address, the length of EDAC memory, FRAM, sums, diagnostics, message or reply buffer, the
+    // receiver's count, and the limit.
     BadAddress,
     BadEdac,
     BadFram,
@@ -30,6 +30,7 @@ pub enum Answer {
     BadDiagnostics,
     BadBuffers,
     BadCount,
+    BadLimit,
 }
 
 // 01's number.
@@ -55,6 +56,7 @@ pub fn number_of(answer: Answer) -> u8
         Answer::BadDiagnostics => 24,
         Answer::BadBuffers => 25,
         Answer::BadCount => 26,
+        Answer::BadLimit => 29,
     }
 }
 
@@ -81,5 +83,6 @@ pub fn sent_of(answer: Answer) -> usize
         Answer::BadDiagnostics => 0,
         Answer::BadBuffers => 0,
         Answer::BadCount => 0,
+        Answer::BadLimit => 0,
     }
 }

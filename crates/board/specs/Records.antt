@@ -39,6 +39,7 @@ placeOut Fault = 3
 abbrev pub unitIn : WheelUnit → Unit
 unitIn u = record {
   address = u .address;
+  limit = u .limit;
   mode = modeIn (u .mode);
   «fram_len» = u .«fram_len»;
   receiver = record { place = placeIn (u .place); count = u .count };
@@ -48,6 +49,7 @@ abbrev pub unitOut : Unit → WheelUnit
 unitOut u = record {
   «fram_len» = u .«fram_len»;
   count = u .receiver .count;
+  limit = u .limit;
   address = u .address;
   mode = modeOut (u .mode);
   place = placeOut (u .receiver .place);

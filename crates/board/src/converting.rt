@@ -63,6 +63,7 @@ pub fn unit_in(lent: WheelUnit) -> Unit
     let place = place_in(lent.place);
     Unit {
         address: lent.address,
+        limit: lent.limit,
         mode,
         fram_len: lent.fram_len as usize,
         receiver: Receiver {
@@ -81,6 +82,7 @@ fn unit_out(held: Unit) -> WheelUnit
     WheelUnit {
         fram_len: held.fram_len as u64,
         count: receiver.count as u64,
+        limit: held.limit,
         address: held.address,
         mode: mode_out(mode),
         place: place_out(place),

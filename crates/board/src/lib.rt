@@ -34,11 +34,12 @@ pub struct WheelJoined {
     pub part: WheelPart,
 }
 
-// A unit's record as C holds it: mode and place by their numbers.
+// A unit's record as C holds it: mode and place by their numbers. The narrow fields come last, so that there is no gap between two.
 #[repr(C)]
 pub struct WheelUnit {
     pub fram_len: u64,
     pub count: u64,
+    pub limit: u16,
     pub address: u8,
     pub mode: u8,
     pub place: u8,
@@ -104,6 +105,7 @@ pub extern "C" fn wheel_join(first: WheelPart, second: WheelPart) -> WheelJoined
 #[no_mangle]
 pub extern "C" fn wheel_set_up(
     address: u8,
+    limit: u64,
     edac: &[u8],
     fram: &[u8],
     sums: &mut [u16],
@@ -112,9 +114,18 @@ pub extern "C" fn wheel_set_up(
     reply: &[u8],
 ) -> WheelStepped
     ensures { λ r. ⌜ returned r (world (now (edac .entry)) (now (fram .entry)) (now (sums .exit)) (now (diagnostics .entry)) (now (message .entry)) (now (reply .entry)))
-        ≡ returnedBy (setUpOf address (world (now (edac .entry)) (now (fram .entry)) (now (sums .entry)) (now (diagnostics .entry)) (now (message .entry)) (now (reply .entry)))) ⌝ }
+        ≡ returnedBy (setUpOf address limit (world (now (edac .entry)) (now (fram .entry)) (now (sums .entry)) (now (diagnostics .entry)) (now (message .entry)) (now (reply .entry)))) ⌝ }
 {
-    stepped_out(unit::set_up(address, edac, fram, sums, diagnostics, message, reply))
+    stepped_out(unit::set_up(
+        address,
+        limit as usize,
+        edac,
+        fram,
+        sums,
+        diagnostics,
+        message,
+        reply,
+    ))
 }
 
 #[no_mangle]

@@ -20,7 +20,7 @@ use Rattle.memory.proofs.Tests.{either-side}
 use Rattle.read_only.proofs.Keeping.{kept-at-first, also-kept}
 use Rattle.blocks.specs.Fram.{Kept, kept, freshSums}
 use Rattle.carrying.specs.declared.Mode.the-variants.{Application}
-use Rattle.carrying.specs.Ending.{longestData, done}
+use Rattle.carrying.specs.Ending.{done}
 use Rattle.carrying.specs.Held.{Held}
 use Rattle.file_commands.specs.WriteFile.{judgeListOf, Storage, storage, StoringLeaves}
 use Rattle.file_commands.proofs.Judging.{what-storing-leaves}
@@ -29,8 +29,8 @@ use Rattle.answer.specs.declared.Answer.the-variants.{Taken}
 use Rattle.judging.specs.declared.Unit.{Unit}
 use Rattle.judging.specs.declared.fitting.Fit.{Fit}
 use Rattle.judging.specs.declared.fitting.Fit.the-variants.{Fits, Unfit}
-use Rattle.judging.specs.Fitting.{largestCount, setUpFit}
-use Rattle.judging.specs.Judging.{withReceiver}
+use Rattle.judging.specs.Fitting.{setUpFit}
+use Rattle.judging.specs.Judging.{largestMessage, withReceiver}
 use Rattle.replying.specs.Replies.{codeOf, polls, replyMessage}
 use Rattle.unit.specs.World.{World, lengthsOf, Outcome, withMessage, withSums}
 use Rattle.unit.specs.Steps.{nobody, somebody, firstOfFram, setUpAs, setUpOf, answered, stepOf}
@@ -40,14 +40,14 @@ use Rattle.board.specs.declared.WheelPacked.{WheelPacked}
 use Rattle.board.specs.Face.{yesOut}
 use Rattle.board.specs.Records.{modeOut, unitIn, unitOut, Returned, returned, returnedBy}
 use Rattle.board.proofs.Settled.{a-record-comes-back}
-use Rattle.demands.specs.Calls.{Fed, lentTo, fedOf, bytesOf, delivering, Suits, AllSuit, Idle, Lending, its-memory, Own, own, ownOf, withMemory, calledOf, Right, Inside}
-use Rattle.demands.specs.Leaving.{countsAfter}
+use Rattle.demands.specs.Calls.{Fed, lentTo, fedOf, bytesOf, delivering, Suits, AllSuit, Serves, Idle, Lending, its-memory, Own, own, ownOf, withMemory, calledOf, Right, Inside}
+use Rattle.demands.specs.Leaving.{countsAfter, SetUpRefusal}
 use Rattle.demands.specs.Orders.{SendsUpTo, Sends, withItsMessage, leftBy, sentBy, doneAnswer, cameTo}
-use Rattle.demands.proofs.Cases.{a-refused-set-up-has-its-number}
+use Rattle.demands.proofs.Cases.{a-refused-set-up-has-its-number, a-refused-set-up-is-no-0}
 use Rattle.demands.proofs.DemandOne.{what-every-answer-leaves, what-set-up-leaves}
 use Rattle.demands.proofs.DemandTwo.{a-packed-message-stands-in-the-buffer}
 use Rattle.demands.proofs.Orders.{a-sent-command-is-carried-out, a-command-that-is-done-sends-its-data}
-use Rattle.demands.proofs.DemandThree.{after-any-calls-the-sums-are-right, the-CRC-sent-is-fresh}
+use Rattle.demands.proofs.DemandThree.{the-limit-stays-and-the-count-stops-above-it, after-any-calls-the-sums-are-right, the-CRC-sent-is-fresh}
 use Rattle.demands.proofs.Keeping.{a-step-keeps-read-only-bytes, storing-keeps-read-only-bytes, a-set-up-keeps-edac}
 use Rattle.demands.proofs.Asking.{done-exactly-where-judged-fit, the-command-leaves-what-storing-leaves}
 use Rattle.c_demands.specs.FromC.{FromC, Steps, SetsUp, callOf, callsOf, LeavesInC, OnTheLine, Packs, bytesFromC, toBeSent, numbersOf, Follow, lastUnit, lastMemory, Judges, Stores, AnyFromC, setting-up, stepping, storing, OnOneEdac, lastEdac}
@@ -114,6 +114,7 @@ module _ (u : WheelUnit) (c : FromC) (steps : Steps u c) where
             ∙ sym (ap₂ (λ (n : ℕ) (w : World). begun (c .lent .reply) (take n (w .reply))) size left);
         address = ap (λ (r : WheelUnit). r .address) back ∙ leaves .address;
         fram-length = ap (λ (r : WheelUnit). r .«fram_len») back ∙ leaves .fram-length;
+        limit = ap (λ (r : WheelUnit). r .limit) back ∙ leaves .limit;
       }
 
 -- ---- demand 2
@@ -171,13 +172,13 @@ module _ (u : WheelUnit) (message : List ℕ) (calls : List FromC) (c : FromC) (
         ap (λ (r : Returned). take (r .stepped .sent) (r .world .reply)) (the-line-from-C u message calls c on .1)
         ∙ a-command-that-is-done-sends-its-data (unitIn u) message source control field (callsOf calls) (callOf c) sends polled reply after came
 
-  -- The round trip. What `wheel_pack` packs, given so to a unit that has nothing open, by calls that are served, stands in the message buffer
-  -- byte for byte when the last byte has come, whether the unit takes it for sound or not.
+  -- The round trip. What `wheel_pack` packs, if it is no longer than the unit's limit allows, given so to a unit that has nothing open, by calls
+  -- that are served, stands in the message buffer byte for byte when the last byte has come, whether the unit takes it for sound or not.
   pub what-is-packed-from-C-is-received-back : (m before : List ℕ) (said : WheelPacked) (packed : List ℕ) → Packs m before said packed → said .answer ≡ 0
-      → bytesFromC calls c ≡ take (said .sent) packed → u .count ≤ largestCount → Idle (unitIn u .receiver)
+      → bytesFromC calls c ≡ take (said .sent) packed → length m ≤ largestMessage (u .limit) → Serves (unitIn u) → Idle (unitIn u .receiver)
       → AllSuit (u .address) (u .«fram_len») (length message) (callsOf calls) → Suits (u .address) (u .«fram_len») (length message) (callOf c)
       → c .left .message ≡ m ++ drop (length m) message
-  what-is-packed-from-C-is-received-back m before said packed packs none bytes low idle all last =
+  what-is-packed-from-C-is-received-back m before said packed packs none bytes within serves idle all last =
       let legal = packed-so m before (sym (ap (λ (p : Packing). p .answer) packs) ∙ none) in
       let written : take (said .sent) packed ≡ packedOf m
       = ap (λ (p : Packing). take (p .sent) (p .reply)) (packs ∙ a-message-of-legal-length-is-packed m before (legal .0) (legal .1) (legal .2))
@@ -185,7 +186,7 @@ module _ (u : WheelUnit) (message : List ℕ) (calls : List FromC) (c : FromC) (
       let split = last-apart (bytesOf (callsOf calls)) (fend ∷ bodyOf m) (c .byte) fend (bytes ∙ written) in
       let few = legal .1 in
       ap (λ (r : Returned). r .world .message) (the-line-from-C u message calls c on .1)
-      ∙ a-packed-message-stands-in-the-buffer (unitIn u) message (callsOf calls) (callOf c) low all last (split .1) m (omega arith) (legal .2) idle (split .0)
+      ∙ a-packed-message-stands-in-the-buffer (unitIn u) message (callsOf calls) (callOf c) serves all last (split .1) m (omega arith) within idle (split .0)
 
 -- ---- demand 3
 
@@ -206,34 +207,32 @@ calls-from-C (c ∷ calls) u memory follow =
     (next u c (follow .1) ∙ ap (λ (x : Outcome). x .unit) lent) (left u c (follow .1) ∙ ap (λ (x : Outcome). x .world) lent)
 
 -- a set-up that answers 0 is not refused
-set-up-so : (address : ℕ) (w : World) → numberOf (setUpOf address w .answer) ≡ 0 → setUpFit address (lengthsOf w) ≡ Fits
+set-up-so : (address limit : ℕ) (w : World) → numberOf (setUpOf address limit w .answer) ≡ 0 → setUpFit address limit (lengthsOf w) ≡ Fits
 unfolding setUpOf
-set-up-so address w none = apart (setUpFit address (lengthsOf w)) refl none
+set-up-so address limit w none = apart (setUpFit address limit (lengthsOf w)) refl none
   where
-    apart : (f : Fit) → setUpFit address (lengthsOf w) ≡ f → numberOf (setUpAs f address w .answer) ≡ 0 → f ≡ Fits
+    apart : (f : Fit) → setUpFit address limit (lengthsOf w) ≡ f → numberOf (setUpAs f address limit w .answer) ≡ 0 → f ≡ Fits
     apart Fits e z = refl
-    apart (Unfit answer) e z = absurd (omega (arith, a-refused-set-up-has-its-number address (lengthsOf w) answer e .0))
+    apart (Unfit answer) e z = absurd (a-refused-set-up-is-no-0 (numberOf answer) (a-refused-set-up-has-its-number address limit (lengthsOf w) answer e) z)
 
--- Demand 1, of `wheel_set_up`: 0 computes all sums and changes nothing else that is lent; 20 to 25 change nothing at all.
-pub what-a-set-up-from-C-leaves : (address : ℕ) (lent : World) (back : WheelStepped) (after : World) → SetsUp address lent back after
-    → (back .answer ≡ 0 → (back .unit ≡ unitOut (somebody address lent)) × (after ≡ withSums lent (freshSums (lent .fram))))
-    × ((back .answer ≡ 0 → ⊥) → (20 ≤ back .answer) × (back .answer ≤ 25) × (back .unit ≡ unitOut nobody) × (after ≡ lent))
-what-a-set-up-from-C-leaves address lent back after sets-up =
-    let leaves = what-set-up-leaves address lent in
-    let number : back .answer ≡ numberOf (setUpOf address lent .answer) = ap (λ (r : Returned). r .stepped .answer) sets-up in
-    let unit : back .unit ≡ unitOut (setUpOf address lent .unit) = ap (λ (r : Returned). r .stepped .unit) sets-up in
-    let left : after ≡ setUpOf address lent .world = ap (λ (r : Returned). r .world) sets-up in (
+-- Demand 1, of `wheel_set_up`: 0 computes all sums and changes nothing else that is lent; 20 to 25 and 29 change nothing at all.
+pub what-a-set-up-from-C-leaves : (address limit : ℕ) (lent : World) (back : WheelStepped) (after : World) → SetsUp address limit lent back after
+    → (back .answer ≡ 0 → (back .unit ≡ unitOut (somebody address limit lent)) × (after ≡ withSums lent (freshSums (lent .fram))))
+    × ((back .answer ≡ 0 → ⊥) → SetUpRefusal (back .answer) × (back .unit ≡ unitOut nobody) × (after ≡ lent))
+what-a-set-up-from-C-leaves address limit lent back after sets-up =
+    let leaves = what-set-up-leaves address limit lent in
+    let number : back .answer ≡ numberOf (setUpOf address limit lent .answer) = ap (λ (r : Returned). r .stepped .answer) sets-up in
+    let unit : back .unit ≡ unitOut (setUpOf address limit lent .unit) = ap (λ (r : Returned). r .stepped .unit) sets-up in
+    let left : after ≡ setUpOf address limit lent .world = ap (λ (r : Returned). r .world) sets-up in (
       (λ none. let both = leaves .set-up (sym number ∙ none) in (unit ∙ ap unitOut (both .0), left ∙ both .1)),
       (λ other.
           let all = leaves .refused (λ none. other (number ∙ none)) in
-          let low = all .0 in
-          let high = all .1 in
-          (omega arith, omega arith, unit ∙ ap unitOut (all .2), left ∙ all .3)),
+          (subst SetUpRefusal (sym number) (all .0), unit ∙ ap unitOut (all .1), left ∙ all .2)),
     )
 
 -- `wheel_set_up` answered 0. After any calls of `wheel_step`, each with the record that the one before gave back, and with FRAM and sums
 -- that nobody else altered:
-module _ (address : ℕ) (lent : World) (back : WheelStepped) (after : World) (sets-up : SetsUp address lent back after) (served : back .answer ≡ 0)
+module _ (address limit : ℕ) (lent : World) (back : WheelStepped) (after : World) (sets-up : SetsUp address limit lent back after) (served : back .answer ≡ 0)
     (calls : List FromC) (follow : Follow (back .unit) (kept (after .fram) (after .sums)) calls) where
   abbrev memory : Kept
   memory = lastMemory (kept (after .fram) (after .sums)) calls
@@ -241,19 +240,25 @@ module _ (address : ℕ) (lent : World) (back : WheelStepped) (after : World) (s
   abbrev record-now : WheelUnit
   record-now = lastUnit (back .unit) calls
 
-  fits : setUpFit address (lengthsOf lent) ≡ Fits
-  fits = set-up-so address lent (sym (ap (λ (r : Returned). r .stepped .answer) sets-up) ∙ served)
+  fits : setUpFit address limit (lengthsOf lent) ≡ Fits
+  fits = set-up-so address limit lent (sym (ap (λ (r : Returned). r .stepped .answer) sets-up) ∙ served)
 
-  now : own (unitIn record-now) memory ≡ calledOf (ownOf (setUpOf address lent)) (asLending calls)
+  now : own (unitIn record-now) memory ≡ calledOf (ownOf (setUpOf address limit lent)) (asLending calls)
   now =
       calls-from-C calls (back .unit) (kept (after .fram) (after .sums)) follow
       ∙ ap₂ (λ (v : Unit) (w : World). calledOf (own v (kept (w .fram) (w .sums))) (asLending calls))
-      (ap unitIn (ap (λ (r : Returned). r .stepped .unit) sets-up) ∙ a-record-comes-back (setUpOf address lent .unit))
+      (ap unitIn (ap (λ (r : Returned). r .stepped .unit) sets-up) ∙ a-record-comes-back (setUpOf address limit lent .unit))
       (ap (λ (r : Returned). r .world) sets-up)
+
+  -- The record's limit is the one that was set up, and its count never passes limit + 6 (02, T-06);
+  pub the-limit-stays-from-C-and-the-count-stops-above-it : (record-now .limit ≡ limit) × (record-now .count ≤ limit + 6)
+  the-limit-stays-from-C-and-the-count-stops-above-it =
+      subst (λ (s : Own). (s .unit .limit ≡ limit) × (s .unit .receiver .count ≤ limit + 6)) (sym now)
+      (the-limit-stays-and-the-count-stops-above-it address limit lent fits (asLending calls))
 
   -- Demand 3: each kept sum is the CRC of its block as it now stands;
   pub after-any-calls-from-C-the-sums-are-right : Right memory
-  after-any-calls-from-C-the-sums-are-right = subst (λ (s : Own). Right (s .memory)) (sym now) (after-any-calls-the-sums-are-right address lent fits (asLending calls))
+  after-any-calls-from-C-the-sums-are-right = subst (λ (s : Own). Right (s .memory)) (sym now) (after-any-calls-the-sums-are-right address limit lent fits (asLending calls))
 
   -- and a CRC command for a range inside FRAM, given to `wheel_step` byte by byte, is answered by the packed reply with the CRC of the bytes
   -- that are now stored there, worked out afresh.
@@ -272,7 +277,7 @@ module _ (address : ℕ) (lent : World) (back : WheelStepped) (after : World) (s
       ≡ packedOf (replyMessage 1 (s .unit .address) source control
       ((bytes32 first ++ bytes32 last) ++ bytes16 (sumOf (stretch (first - firstOfFram) (last - first + 1) (s .memory .fram))))))
       (sym now)
-      (λ inside sent fram sums. the-CRC-sent-is-fresh address lent fits (asLending calls) (callsOf sending) (callOf c) message source control first last inside sent fram sums code polled)
+      (λ inside sent fram sums. the-CRC-sent-is-fresh address limit lent fits (asLending calls) (callsOf sending) (callOf c) message source control first last inside sent fram sums code polled)
       range sends its-fram its-sums
 
 -- ---- 02, T-02 and T-11
@@ -281,8 +286,8 @@ module _ (address : ℕ) (lent : World) (back : WheelStepped) (after : World) (s
 -- buffers, refused or not. After any of them it is as long as it was, and each of its read-only bytes has the value that it had.
 pub no-bytes-from-C-change-a-read-only-byte : (edac : List ℕ) (calls : List AnyFromC) → OnOneEdac edac calls → KeepsReadOnly edac (lastEdac edac calls)
 no-bytes-from-C-change-a-read-only-byte edac [] on = kept-at-first edac
-no-bytes-from-C-change-a-read-only-byte edac (setting-up address lent back after ∷ calls) on =
-    let same : after .edac ≡ edac = ap (λ (r : Returned). r .world .edac) (on .1) ∙ a-set-up-keeps-edac address lent ∙ on .0 in
+no-bytes-from-C-change-a-read-only-byte edac (setting-up address limit lent back after ∷ calls) on =
+    let same : after .edac ≡ edac = ap (λ (r : Returned). r .world .edac) (on .1) ∙ a-set-up-keeps-edac address limit lent ∙ on .0 in
     also-kept (subst (KeepsReadOnly edac) (sym same) (kept-at-first edac)) (no-bytes-from-C-change-a-read-only-byte (after .edac) calls (on .2))
 no-bytes-from-C-change-a-read-only-byte edac (stepping u c ∷ calls) on =
     let kept-so = a-step-keeps-read-only-bytes (unitIn u) (c .byte) (c .lent) in
@@ -314,16 +319,16 @@ module _ (most : ℕ) (u : WheelUnit) (message : List ℕ) (source control : ℕ
   came-back = the-line-from-C u message calls c on .1
 
   -- `wheel_judge_list` answers 1 for it exactly where the last byte answers that it is done: 1, or 2 with poll clear;
-  pub done-exactly-where-judged-fit-from-C : (answer : ℕ) → Judges longestData list answer
+  pub done-exactly-where-judged-fit-from-C : (answer : ℕ) → Judges (u .limit) list answer
       → (answer ≡ 1 → c .back .answer ≡ doneAnswer control) × (c .back .answer ≡ doneAnswer control → answer ≡ 1)
   done-exactly-where-judged-fit-from-C answer judges =
-      let yes = yes-is-1 (judgeListOf longestData list) in
+      let yes = yes-is-1 (judgeListOf (u .limit) list) in
       let both = done-exactly-where-judged-fit most (unitIn u) message source control list (callsOf calls) (callOf c) sends code mode in
       let number = ap (λ (r : Returned). r .stepped .answer) came-back in
       ((λ one. number ∙ both .0 (yes .0 (sym judges ∙ one))), λ so. judges ∙ yes .1 (both .1 (sym number ∙ so)))
 
   -- and `wheel_store_list` on the EDAC memory that the last byte was lent leaves what that byte leaves.
-  pub storing-from-C-leaves-what-the-command-leaves : (answer : ℕ) (after : List ℕ) → Stores longestData (c .lent .edac) list answer after → after ≡ c .left .edac
+  pub storing-from-C-leaves-what-the-command-leaves : (answer : ℕ) (after : List ℕ) → Stores (u .limit) (c .lent .edac) list answer after → after ≡ c .left .edac
   storing-from-C-leaves-what-the-command-leaves answer after stores =
       ap (λ (s : Storage). s .edac) stores
       ∙ sym (ap (λ (r : Returned). r .world .edac) came-back

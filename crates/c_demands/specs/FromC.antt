@@ -29,8 +29,8 @@ pub record FromC : Type 0 where
 abbrev pub Steps : WheelUnit → FromC → Type 0
 Steps u c = returned (c .back) (c .left) ≡ returnedBy (stepOf (unitIn u) (c .byte) (c .lent))
 
-abbrev pub SetsUp : ℕ → World → WheelStepped → World → Type 0
-SetsUp address lent back left = returned back left ≡ returnedBy (setUpOf address lent)
+abbrev pub SetsUp : ℕ → ℕ → World → WheelStepped → World → Type 0
+SetsUp address limit lent back left = returned back left ≡ returnedBy (setUpOf address limit lent)
 
 -- The same call as demands speaks of it.
 abbrev pub callOf : FromC → Call
@@ -44,7 +44,7 @@ callsOf (c ∷ calls) = callOf c ∷ callsOf calls
 
 -- What a call of `wheel_step` leaves, by the number of its answer, for any record at all.
 pub record LeavesInC (u : WheelUnit) (c : FromC) : Type 0 where
-  -- 20 to 26 change nothing at all: the record comes back as it was read.
+  -- 20 to 26 and 29 change nothing at all: the record comes back as it was read.
   pub nothing-by-a-refused-call : 20 ≤ c .back .answer → (c .back .unit ≡ unitOut (unitIn u)) × (c .left ≡ c .lent)
   -- All but 1 and 2 leave EDAC, FRAM, sums and mode unchanged.
   pub memory-unless-a-command-is-done : (c .back .answer ≡ 1 → ⊥) → (c .back .answer ≡ 2 → ⊥)
@@ -54,6 +54,7 @@ pub record LeavesInC (u : WheelUnit) (c : FromC) : Type 0 where
   pub reply : c .left .reply ≡ begun (c .lent .reply) (take (c .back .sent) (c .left .reply))
   pub address : c .back .unit .address ≡ u .address
   pub fram-length : c .back .unit .«fram_len» ≡ u .«fram_len»
+  pub limit : c .back .unit .limit ≡ u .limit
 
 -- ---- demand 2: bytes on the line, one by one
 
@@ -109,23 +110,23 @@ Stores limit edac list answer left = storage answer left ≡ storeListOf limit e
 
 -- ---- 02, T-02 and T-11: any calls on one EDAC memory
 
--- A call of `wheel_set_up`, with its address, what was lent, what came back and what was lent as the call left it; one of `wheel_step`,
+-- A call of `wheel_set_up`, with its address and limit, what was lent, what came back and what was lent as the call left it; one of `wheel_step`,
 -- with its record; or one of `wheel_store_list`, with its limit, the EDAC memory and the list that were lent, its answer and the EDAC memory that it left.
 pub data AnyFromC : Type 0 where
-  setting-up : ℕ → World → WheelStepped → World → AnyFromC
+  setting-up : ℕ → ℕ → World → WheelStepped → World → AnyFromC
   stepping : WheelUnit → FromC → AnyFromC
   storing : ℕ → List ℕ → List ℕ → ℕ → List ℕ → AnyFromC
 
 -- Each call is lent EDAC memory as the one before left it; all else may be anything, of any length, and another record at each call.
 abbrev pub OnOneEdac : List ℕ → List AnyFromC → Type 0
 OnOneEdac edac [] = Prim.Unit {0}
-OnOneEdac edac (setting-up address lent back left ∷ calls) = (lent .edac ≡ edac) × SetsUp address lent back left × OnOneEdac (left .edac) calls
+OnOneEdac edac (setting-up address limit lent back left ∷ calls) = (lent .edac ≡ edac) × SetsUp address limit lent back left × OnOneEdac (left .edac) calls
 OnOneEdac edac (stepping u c ∷ calls) = (c .lent .edac ≡ edac) × Steps u c × OnOneEdac (c .left .edac) calls
 OnOneEdac edac (storing limit lent list answer left ∷ calls) = (lent ≡ edac) × Stores limit lent list answer left × OnOneEdac left calls
 
 -- EDAC memory as the last of them leaves it.
 abbrev pub lastEdac : List ℕ → List AnyFromC → List ℕ
 lastEdac edac [] = edac
-lastEdac edac (setting-up address lent back left ∷ calls) = lastEdac (left .edac) calls
+lastEdac edac (setting-up address limit lent back left ∷ calls) = lastEdac (left .edac) calls
 lastEdac edac (stepping u c ∷ calls) = lastEdac (c .left .edac) calls
 lastEdac edac (storing limit lent list answer left ∷ calls) = lastEdac left calls

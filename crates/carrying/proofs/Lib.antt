@@ -5,3 +5,4 @@ pub mod Room
 pub mod Settled
 pub mod Storing
 pub mod Started
+pub mod Limits

@@ -10,11 +10,12 @@ use Rattle.blocks.specs.declared.Found.the-variants.{At, Outside}
 use Rattle.carrying.specs.declared.Ended.{Ended}
 use Rattle.carrying.specs.declared.Ended.the-variants.{Done, Refused, Unfitted}
 
--- The longest data field of a message, and so of a reply: what the unit passes to the commands as `room`.
+-- The longest data field of a message, and so of a reply, on any bus.
 abbrev pub longestData : ℕ
 longestData = 1028
 
--- A bus may allow less (02, T-06): what its limit may be. No less than 260, since a one-byte count of 0 asks for 256 bytes behind an address of four.
+-- A bus may allow less (02, T-06): what its limit may be, which the unit passes to the commands as `room`. No less than 260, since a one-byte count of
+-- 0 asks for 256 bytes behind an address of four.
 abbrev pub leastLimit : ℕ
 leastLimit = 260
 

@@ -1,9 +1,21 @@
-// What the rooms of the commands share: how much data a message may have, the two modes, and what a command comes to. No code.
+// What the rooms of the commands share: how much data a message may have, the two modes, and what a command comes to.
+ghost use mathlib.Core.Path.{_≡_};
+ghost use Rattle.carrying.specs.Ending.{isLimit};
 
 // The longest data field of a message, and the least that a bus may set as its limit.
-pub const LONGEST_DATA: usize = 1028;
+const LONGEST_DATA: usize = 1028;
 
-pub const LEAST_LIMIT: usize = 260;
+const LEAST_LIMIT: usize = 260;
+
+// Whether a bus may set this limit.
+pub fn is_limit(limit: usize) -> bool
+    ensures { λ r. ⌜ r ≡ isLimit limit ⌝ }
+{
+    if limit < LEAST_LIMIT {
+        return false;
+    }
+    limit <= LONGEST_DATA
+}
 
 // The unit's two modes.
 pub enum Mode {

@@ -11,7 +11,7 @@ use Rattle.line.specs.Receiver.{opened}
 use Rattle.memory.specs.Edac.{edacSize}
 use Rattle.memory.proofs.Tests.{either-side}
 use Rattle.carrying.specs.declared.Mode.the-variants.{Application}
-use Rattle.carrying.specs.Ending.{longestData, done, refused}
+use Rattle.carrying.specs.Ending.{done, refused}
 use Rattle.carrying.specs.Held.{held, onEdac}
 use Rattle.carrying.proofs.Room.{either-way}
 use Rattle.blocks.specs.Fram.{kept}
@@ -37,14 +37,14 @@ use Rattle.demands.proofs.Doing.{a-command-that-is-done-answers-so}
 
 module _ (u : Unit) (c : Call) (control : ℕ) (list : List ℕ) (code : codeOf control ≡ 0x08) (mode : u .mode ≡ Application) where
   -- A list that is judged fit is done, and stored as storing stores it;
-  pub a-list-judged-fit-is-done : judgeListOf longestData list ≡ true
+  pub a-list-judged-fit-is-done : judgeListOf (u .limit) list ≡ true
       → let after = filesStored (c .lent .edac) (listed list) in
       cameTo u c control list ≡ done (filesShown after (filesOf (listed list))) (held (u .mode) after (kept (c .lent .fram) (c .lent .sums)))
-  a-list-judged-fit-is-done fit = a-WRITE-FILE-comes-to u c control list code mode ∙ ap (onEdac (heldOf u (c .lent))) (a-fit-list-is-written longestData (c .lent .edac) list fit)
+  a-list-judged-fit-is-done fit = a-WRITE-FILE-comes-to u c control list code mode ∙ ap (onEdac (heldOf u (c .lent))) (a-fit-list-is-written (u .limit) (c .lent .edac) list fit)
 
   -- any other is refused.
-  pub a-list-judged-unfit-is-refused : judgeListOf longestData list ≡ false → cameTo u c control list ≡ refused
-  a-list-judged-unfit-is-refused unfit = a-WRITE-FILE-comes-to u c control list code mode ∙ ap (onEdac (heldOf u (c .lent))) (an-unfit-list-is-refused longestData (c .lent .edac) list unfit)
+  pub a-list-judged-unfit-is-refused : judgeListOf (u .limit) list ≡ false → cameTo u c control list ≡ refused
+  a-list-judged-unfit-is-refused unfit = a-WRITE-FILE-comes-to u c control list code mode ∙ ap (onEdac (heldOf u (c .lent))) (an-unfit-list-is-refused (u .limit) (c .lent .edac) list unfit)
 
 -- ---- on the line
 
@@ -54,9 +54,9 @@ module _ (most : ℕ) (u : Unit) (message : List ℕ) (source control : ℕ) (li
   abbrev So : ℕ → List ℕ → Outcome → Type 0
   So number edac o = (numberOf (o .answer) ≡ number) × (o .world .edac ≡ edac)
 
-  legal : length list ≤ longestData → Sends u message source control list calls c
+  legal : length list ≤ u .limit → Sends u message source control list calls c
   legal short = record {
-    low = sends .low;
+    serves = sends .serves;
     idle = sends .idle;
     bytes = sends .bytes;
     short = short;
@@ -66,9 +66,9 @@ module _ (most : ℕ) (u : Unit) (message : List ℕ) (source control : ℕ) (li
     suits = sends .suits;
   }
 
-  fit-so : judgeListOf longestData list ≡ true → So (doneAnswer control) (filesStored (c .lent .edac) (listed list)) (leftBy u message calls c)
+  fit-so : judgeListOf (u .limit) list ≡ true → So (doneAnswer control) (filesStored (c .lent .edac) (listed list)) (leftBy u message calls c)
   fit-so fit =
-      let so = a-command-that-is-done-answers-so u message source control list calls c (legal (what-is-fit longestData list fit .short)) _ _
+      let so = a-command-that-is-done-answers-so u message source control list calls c (legal (what-is-fit (u .limit) list fit .short)) _ _
       (a-list-judged-fit-is-done u c control list code mode fit) in
       (so .0, so .1)
 
@@ -81,7 +81,7 @@ module _ (most : ℕ) (u : Unit) (message : List ℕ) (source control : ℕ) (li
     refl,
   )
 
-  refused-so : length list ≤ longestData → judgeListOf longestData list ≡ false → So (refusedAnswer control) (c .lent .edac) (leftBy u message calls c)
+  refused-so : length list ≤ u .limit → judgeListOf (u .limit) list ≡ false → So (refusedAnswer control) (c .lent .edac) (leftBy u message calls c)
   refused-so short unfit =
       subst (So (refusedAnswer control) (c .lent .edac))
       (sym (what-a-sent-command-leaves u message source control list calls c (legal short)
@@ -89,32 +89,32 @@ module _ (most : ℕ) (u : Unit) (message : List ℕ) (source control : ℕ) (li
       (a-list-judged-unfit-is-refused u c control list code mode unfit)))
       refuses
 
-  dropped-so : longestData < length list → So 7 (c .lent .edac) (leftBy u message calls c)
+  dropped-so : u .limit < length list → So 7 (c .lent .edac) (leftBy u message calls c)
   unfolding servedOf
   dropped-so long =
       let m = sealed (u .address ∷ source ∷ control ∷ list) in
       let size = sealed-size (u .address) source control list in
-      let whole = a-packed-message-too-long-is-dropped u message calls c (sends .low) (sends .suiting) (sends .suits) (sends .ends) m (omega arith) (sends .idle) (sends .packed) in
+      let whole = a-packed-message-too-long-is-dropped u message calls c (sends .serves) (sends .suiting) (sends .suits) (sends .ends) m (omega arith) (sends .idle) (sends .packed) in
       (ap (λ (f : Fed). numberOf (f .last .answer)) whole, ap (λ (f : Fed). f .last .world .edac) whole)
 
   whole : length (c .lent .edac) ≡ edacSize
-  whole = a-served-step-fits u (lengthsOf (lentTo message c)) (a-call-that-suits-fits u message c (sends .low) (sends .suits)) .edac-fits
+  whole = a-served-step-fits u (lengthsOf (lentTo message c)) (a-call-that-suits-fits u message c (sends .serves) (sends .suits)) .edac-fits
 
   -- T-11. It is answered so,
-  pub what-a-WRITE-FILE-is-answered : numberOf (leftBy u message calls c .answer) ≡ listAnswer control list
-  what-a-WRITE-FILE-is-answered = by (judgeListOf longestData list) refl
+  pub what-a-WRITE-FILE-is-answered : numberOf (leftBy u message calls c .answer) ≡ listAnswer (u .limit) control list
+  what-a-WRITE-FILE-is-answered = by (judgeListOf (u .limit) list) refl
     where
-      by : (fit : Bool) → judgeListOf longestData list ≡ fit → numberOf (leftBy u message calls c .answer) ≡ listAnswer control list
+      by : (fit : Bool) → judgeListOf (u .limit) list ≡ fit → numberOf (leftBy u message calls c .answer) ≡ listAnswer (u .limit) control list
       by true e = fit-so e .0 ∙ sym (simp e)
       by false e =
-          either-side (length list) longestData
-          (λ short. refused-so short e .0 ∙ sym (simp (e, le-leb (length list) longestData short)))
-          (λ long. dropped-so long .0 ∙ sym (simp (e, lt-leb (length list) longestData long)))
+          either-side (length list) (u .limit)
+          (λ short. refused-so short e .0 ∙ sym (simp (e, le-leb (length list) (u .limit) short)))
+          (λ long. dropped-so long .0 ∙ sym (simp (e, lt-leb (length list) (u .limit) long)))
 
   -- so judging says yes exactly where it is done, poll set or clear,
-  pub done-exactly-where-judged-fit : (judgeListOf longestData list ≡ true → numberOf (leftBy u message calls c .answer) ≡ doneAnswer control)
-      × (numberOf (leftBy u message calls c .answer) ≡ doneAnswer control → judgeListOf longestData list ≡ true)
-  done-exactly-where-judged-fit = ((λ fit. fit-so fit .0), λ answered-so. by answered-so (judgeListOf longestData list) refl)
+  pub done-exactly-where-judged-fit : (judgeListOf (u .limit) list ≡ true → numberOf (leftBy u message calls c .answer) ≡ doneAnswer control)
+      × (numberOf (leftBy u message calls c .answer) ≡ doneAnswer control → judgeListOf (u .limit) list ≡ true)
+  done-exactly-where-judged-fit = ((λ fit. fit-so fit .0), λ answered-so. by answered-so (judgeListOf (u .limit) list) refl)
     where
       apart : (n : ℕ) (b : Bool) → n ≡ cond b 3 4 → n ≡ cond b 1 2 → ⊥
       apart n true e f = omega arith
@@ -124,37 +124,37 @@ module _ (most : ℕ) (u : Unit) (message : List ℕ) (source control : ℕ) (li
       high n true e f = omega arith
       high n false e f = omega arith
 
-      by : numberOf (leftBy u message calls c .answer) ≡ doneAnswer control → (fit : Bool) → judgeListOf longestData list ≡ fit → judgeListOf longestData list ≡ true
+      by : numberOf (leftBy u message calls c .answer) ≡ doneAnswer control → (fit : Bool) → judgeListOf (u .limit) list ≡ fit → judgeListOf (u .limit) list ≡ true
       by so true e = e
       by so false e =
-          either-side (length list) longestData
+          either-side (length list) (u .limit)
           (λ short. absurd (apart _ (polls control) (refused-so short e .0) so))
           (λ long. absurd (high _ (polls control) (dropped-so long .0) so))
 
   -- and, with poll set, exactly where it is ACKed;
   pub ACKed-exactly-where-judged-fit : polls control ≡ true
-      → (judgeListOf longestData list ≡ true → numberOf (leftBy u message calls c .answer) ≡ 1)
-      × (numberOf (leftBy u message calls c .answer) ≡ 1 → judgeListOf longestData list ≡ true)
+      → (judgeListOf (u .limit) list ≡ true → numberOf (leftBy u message calls c .answer) ≡ 1)
+      × (numberOf (leftBy u message calls c .answer) ≡ 1 → judgeListOf (u .limit) list ≡ true)
   ACKed-exactly-where-judged-fit polled =
       let one : doneAnswer control ≡ 1 = ap (λ b. cond b 1 2) polled in
       ((λ fit. done-exactly-where-judged-fit .0 fit ∙ one), λ acked. done-exactly-where-judged-fit .1 (acked ∙ sym one))
 
   -- which is, in 01's own words: a list that is not empty, has room in a message and does not end inside a structure;
   pub done-exactly-where-01-says :
-      (numberOf (leftBy u message calls c .answer) ≡ doneAnswer control → (0 < length list) × (length list ≤ longestData) × (isWhole (listed list) ≡ true))
-      × (0 < length list → length list ≤ longestData → isWhole (listed list) ≡ true → numberOf (leftBy u message calls c .answer) ≡ doneAnswer control)
+      (numberOf (leftBy u message calls c .answer) ≡ doneAnswer control → (0 < length list) × (length list ≤ u .limit) × (isWhole (listed list) ≡ true))
+      × (0 < length list → length list ≤ u .limit → isWhole (listed list) ≡ true → numberOf (leftBy u message calls c .answer) ≡ doneAnswer control)
   done-exactly-where-01-says = (
-    (λ so. let fit = what-is-fit longestData list (done-exactly-where-judged-fit .1 so) in (fit .some, fit .short, fit .whole)),
+    (λ so. let fit = what-is-fit (u .limit) list (done-exactly-where-judged-fit .1 so) in (fit .some, fit .short, fit .whole)),
     λ some short ends. done-exactly-where-judged-fit .0
-        (so-it-is-fit longestData list (record { least = omega arith; most = omega arith; some = some; short = short; whole = ends })),
+        (so-it-is-fit (u .limit) list (record { limited = sends .serves .1; some = some; short = short; whole = ends })),
   )
 
   -- and what it leaves in EDAC memory is what storing the list leaves there.
-  pub the-command-leaves-what-storing-leaves : leftBy u message calls c .world .edac ≡ storeListOf longestData (c .lent .edac) list .edac
-  the-command-leaves-what-storing-leaves = by (judgeListOf longestData list) refl
+  pub the-command-leaves-what-storing-leaves : leftBy u message calls c .world .edac ≡ storeListOf (u .limit) (c .lent .edac) list .edac
+  the-command-leaves-what-storing-leaves = by (judgeListOf (u .limit) list) refl
     where
-      by : (fit : Bool) → judgeListOf longestData list ≡ fit → leftBy u message calls c .world .edac ≡ storeListOf longestData (c .lent .edac) list .edac
-      by true e = fit-so e .1 ∙ sym (ap (λ (s : Storage). s .edac) (a-fit-list-is-stored longestData (c .lent .edac) list whole e))
+      by : (fit : Bool) → judgeListOf (u .limit) list ≡ fit → leftBy u message calls c .world .edac ≡ storeListOf (u .limit) (c .lent .edac) list .edac
+      by true e = fit-so e .1 ∙ sym (ap (λ (s : Storage). s .edac) (a-fit-list-is-stored (u .limit) (c .lent .edac) list whole e))
       by false e =
-          either-side (length list) longestData (λ short. refused-so short e .1) (λ long. dropped-so long .1)
-          ∙ sym (ap (λ (s : Storage). s .edac) (an-unfit-list-is-not-stored longestData (c .lent .edac) list whole e))
+          either-side (length list) (u .limit) (λ short. refused-so short e .1) (λ long. dropped-so long .1)
+          ∙ sym (ap (λ (s : Storage). s .edac) (an-unfit-list-is-not-stored (u .limit) (c .lent .edac) list whole e))

@@ -1,6 +1,7 @@
 -- The cases of a call, once for all demands: what holds of each of them holds of every call. Assumes nothing.
 use mathlib.Core.Path.{_≡_, refl, subst}
 use mathlib.Core.Bool.{Bool, _||_}
+use mathlib.Core.Logic.{inl, inr}
 use mathlib.Core.List.{List}
 use Prim.Native.Nat.{ℕ, _+_, _-_, _≤_, _<_}
 use native.Mathlib.Omega.{arith}
@@ -15,21 +16,22 @@ use Rattle.memory.specs.Bytes.{stretch}
 use Rattle.memory.specs.Counts.{channels, countedUp}
 use Rattle.memory.specs.Edac.{edacSize}
 use Rattle.blocks.specs.Fram.{blockStart}
-use Rattle.carrying.specs.Ending.{longestData}
+use Rattle.carrying.specs.Ending.{isLimit}
 use Rattle.carrying.proofs.Room.{either-way, part}
 use Rattle.answer.specs.declared.Answer.{Answer}
-use Rattle.answer.specs.declared.Answer.the-variants.{Taken, Framing, Runt, Oversize, BadCrc, Elsewhere, BadAddress, BadEdac, BadFram, BadSums, BadDiagnostics, BadBuffers, BadCount}
+use Rattle.answer.specs.declared.Answer.the-variants.{Taken, Framing, Runt, Oversize, BadCrc, Elsewhere, BadAddress, BadEdac, BadFram, BadSums, BadDiagnostics, BadBuffers, BadCount, BadLimit}
 use Rattle.answer.specs.Answers.{numberOf, sentOf}
 use Rattle.judging.specs.declared.Unit.{Unit}
 use Rattle.judging.specs.declared.Lengths.{Lengths}
 use Rattle.judging.specs.declared.Verdict.{Verdict}
 use Rattle.judging.specs.declared.fitting.Fit.{Fit}
 use Rattle.judging.specs.declared.fitting.Fit.the-variants.{Fits, Unfit}
-use Rattle.judging.specs.Fitting.{forbidden, framFits, framAsSetUp, countFit, largestCount, lengthsFit, setUpFit, stepFit}
-use Rattle.judging.specs.Judging.{firstCount, soundOf, runOf, verdictOf, withReceiver, receivedOf, unless, judgeOf}
+use Rattle.judging.specs.Fitting.{forbidden, framFits, framAsSetUp, limitFit, countFit, largestCount, lengthsFit, setUpFit, stepFit}
+use Rattle.judging.specs.Judging.{firstCount, largestMessage, soundOf, runOf, verdictOf, withReceiver, receivedOf, unless, judgeOf}
 use Rattle.unit.specs.World.{World, lengthsOf, Outcome, outcome, withMessage, withDiagnostics}
 use Rattle.unit.specs.Steps.{orderedOf, commandedOf, servedOf, stepOf}
 use Rattle.demands.specs.Calls.{comesTo}
+use Rattle.demands.specs.Leaving.{SetUpRefusal}
 
 -- ---- a call that is not refused
 
@@ -39,21 +41,21 @@ pub record Each (P : Outcome → Type 0) (u : Unit) (w : World) : Type 0 where
   pub elsewhere : P (outcome u Elsewhere w)
   pub dropped : (answer : Answer) (which : ℕ) → numberOf answer ≡ 5 + which → which < 4 → sentOf answer ≡ 0
       → P (outcome u answer (withDiagnostics w (countedUp (w .diagnostics) (firstCount + which))))
-  pub commanded : (destination source control : ℕ) (field : List ℕ) → length field ≤ longestData → P (orderedOf u destination source control field w)
+  pub commanded : (destination source control : ℕ) (field : List ℕ) → length field ≤ u .limit → P (orderedOf u destination source control field w)
 
 module _ (P : Outcome → Type 0) (u : Unit) (w : World) (each : Each P u w) where
-  of-any-run : (count : ℕ) → P (servedOf u (runOf (u .address) count (w .message)) w)
+  of-any-run : (count : ℕ) → P (servedOf u (runOf (largestMessage (u .limit)) (u .address) count (w .message)) w)
   unfolding servedOf runOf commandedOf
   of-any-run count =
       either-way (λ (v : Verdict). P (servedOf u v w)) (ltb count shortestMessage) _ _ (λ _. each .dropped Runt 1 refl (omega arith) refl)
-      (λ _. either-way (λ (v : Verdict). P (servedOf u v w)) (ltb messageSize count) _ _ (λ _. each .dropped Oversize 2 refl (omega arith) refl)
+      (λ _. either-way (λ (v : Verdict). P (servedOf u v w)) (ltb (largestMessage (u .limit)) count) _ _ (λ _. each .dropped Oversize 2 refl (omega arith) refl)
       (λ within. either-way (λ (v : Verdict). P (servedOf u v w)) (soundOf count (w .message)) _ _
       (λ _. either-way (λ (v : Verdict). P (servedOf u v w)) (eqb (getD (w .message) 0 0) (u .address)) _ _
-      (λ _. each .commanded _ _ _ (stretch 3 (count - 5) (w .message)) (short (ltb-false messageSize count within)))
+      (λ _. each .commanded _ _ _ (stretch 3 (count - 5) (w .message)) (short (ltb-false (largestMessage (u .limit)) count within)))
       (λ _. each .elsewhere))
       (λ _. each .dropped BadCrc 3 refl (omega arith) refl)))
     where
-      short : count ≤ messageSize → length (stretch 3 (count - 5) (w .message)) ≤ longestData
+      short : count ≤ largestMessage (u .limit) → length (stretch 3 (count - 5) (w .message)) ≤ u .limit
       short within = let h = part (count - 5) (drop 3 (w .message)) in omega arith
 
   pub of-anything-heard : (h : Heard) → P (comesTo u h w)
@@ -67,7 +69,8 @@ module _ (P : Outcome → Type 0) (u : Unit) (w : World) (each : Each P u w) whe
 
 pub of-any-call : (P : Outcome → Type 0) (u : Unit) (byte : ℕ) (w : World) → ((answer : Answer) → stepFit u (lengthsOf w) ≡ Unfit answer → P (outcome u answer w))
     → (stepFit u (lengthsOf w) ≡ Fits
-    → Each P (withReceiver u (receiveOf messageSize (u .receiver) byte (w .message) .receiver)) (withMessage w (receiveOf messageSize (u .receiver) byte (w .message) .message)))
+    → let got = receiveOf (largestMessage (u .limit)) (u .receiver) byte (w .message) in
+    Each P (withReceiver u (got .receiver)) (withMessage w (got .message)))
     → P (stepOf u byte w)
 unfolding stepOf judgeOf receivedOf servedOf
 of-any-call P u byte w refused served = apart (stepFit u (lengthsOf w)) refl
@@ -76,7 +79,7 @@ of-any-call P u byte w refused served = apart (stepFit u (lengthsOf w)) refl
         → P (let j = unless f u (w .message) (receivedOf u byte (w .message)) in servedOf (j .unit) (j .verdict) (withMessage w (j .message)))
     apart (Unfit answer) e = refused answer e
     apart Fits e =
-        let got = receiveOf messageSize (u .receiver) byte (w .message) in
+        let got = receiveOf (largestMessage (u .limit)) (u .receiver) byte (w .message) in
         of-anything-heard P (withReceiver u (got .receiver)) (withMessage w (got .message)) (served e) (got .heard)
 
 -- ---- the number of a refusal
@@ -106,15 +109,22 @@ pub a-refused-step-has-its-number : (u : Unit) (l : Lengths) (answer : Answer) �
 unfolding stepFit
 a-refused-step-has-its-number u l answer e =
     subst High e
-    (of-any-length High (u .address) (framAsSetUp (l .fram) (u .«fram_len»)) l (countFit (u .receiver .count)) (λ answer low high. low)
-    (either-way High (leb (u .receiver .count) largestCount) Fits (Unfit BadCount) (λ _. omega arith) (λ _. omega arith)))
+    (of-any-length High (u .address) (framAsSetUp (l .fram) (u .«fram_len»)) l (countFit (u .receiver .count) (limitFit (u .limit))) (λ answer low high. low)
+    (either-way High (leb (u .receiver .count) largestCount) (limitFit (u .limit)) (Unfit BadCount)
+    (λ _. either-way High (isLimit (u .limit)) Fits (Unfit BadLimit) (λ _. omega arith) (λ _. omega arith)) (λ _. omega arith)))
 
--- of set-up 20 to 25
-abbrev Between : Fit → Type 0
-Between Fits = (0 ≤ 0) × (0 ≤ 0)
-Between (Unfit answer) = (20 ≤ numberOf answer) × (numberOf answer ≤ 25)
+-- of set-up 20 to 25, or 29
+abbrev Refuses : Fit → Type 0
+Refuses Fits = 0 ≤ 0
+Refuses (Unfit answer) = SetUpRefusal (numberOf answer)
 
-pub a-refused-set-up-has-its-number : (address : ℕ) (l : Lengths) (answer : Answer) → setUpFit address l ≡ Unfit answer → (20 ≤ numberOf answer) × (numberOf answer ≤ 25)
+pub a-refused-set-up-has-its-number : (address limit : ℕ) (l : Lengths) (answer : Answer) → setUpFit address limit l ≡ Unfit answer → SetUpRefusal (numberOf answer)
 unfolding setUpFit
-a-refused-set-up-has-its-number address l answer e =
-    subst Between e (of-any-length Between address (framFits (l .fram)) l Fits (λ answer low high. (low, high)) (omega arith, omega arith))
+a-refused-set-up-has-its-number address limit l answer e =
+    subst Refuses e
+    (of-any-length Refuses address (framFits (l .fram)) l (limitFit limit) (λ answer low high. inl (low, high))
+    (either-way Refuses (isLimit limit) Fits (Unfit BadLimit) (λ _. omega arith) (λ _. inr refl)))
+
+pub a-refused-set-up-is-no-0 : (number : ℕ) → SetUpRefusal number → number ≡ 0 → ⊥
+a-refused-set-up-is-no-0 number (inl between) none = let low = between .0 in omega arith
+a-refused-set-up-is-no-0 number (inr is) none = omega arith

@@ -10,28 +10,28 @@ use borrow.Author.Tests.{le-leb, lt-leb}
 use lib.Dec.{leb}
 use lib.ListN.{length, take}
 use Rattle.line.specs.declared.receiver.Receiver.{Receiver}
-use Rattle.line.specs.Packing.{packedOf, messageSize}
+use Rattle.line.specs.Packing.{packedOf}
 use Rattle.line.specs.Receiver.{receiveOf}
 use Rattle.memory.specs.Bytes.{begun}
 use Rattle.memory.specs.Counts.{countedUp}
 use Rattle.memory.proofs.Stretches.{the-written-part-is-handed-back}
-use Rattle.carrying.specs.Ending.{longestData, Ending, done, refused, unfitted}
+use Rattle.carrying.specs.Ending.{Ending, done, refused, unfitted}
 use Rattle.carrying.specs.Held.{Held}
 use Rattle.carrying.proofs.Room.{either-way}
 use Rattle.command.specs.Command.{commandOf}
 use Rattle.answer.specs.declared.Answer.{Answer}
-use Rattle.answer.specs.declared.Answer.the-variants.{Taken, Acked, Done, Nacked, Refused, Framing, Runt, Oversize, BadCrc, Elsewhere, Unfitted, BadAddress, BadEdac, BadFram, BadSums, BadDiagnostics, BadBuffers, BadCount}
+use Rattle.answer.specs.declared.Answer.the-variants.{Taken, Acked, Done, Nacked, Refused, Framing, Runt, Oversize, BadCrc, Elsewhere, Unfitted, BadAddress, BadEdac, BadFram, BadSums, BadDiagnostics, BadBuffers, BadCount, BadLimit}
 use Rattle.answer.specs.Answers.{numberOf, sentOf}
 use Rattle.judging.specs.declared.Unit.{Unit}
 use Rattle.judging.specs.declared.fitting.Fit.{Fit}
 use Rattle.judging.specs.declared.fitting.Fit.the-variants.{Fits, Unfit}
 use Rattle.judging.specs.Fitting.{setUpFit, lengthsFit, stepFit}
-use Rattle.judging.specs.Judging.{firstCount, withReceiver, judgeOf}
+use Rattle.judging.specs.Judging.{firstCount, largestMessage, withReceiver, judgeOf}
 use Rattle.replying.specs.Replies.{polls, codeOf, replyMessage, Said, saying, saidOf}
 use Rattle.unit.specs.World.{World, lengthsOf, Outcome, outcome, withMode, withMessage, withDiagnostics, withReply, heldOf, withHeld}
 use Rattle.unit.specs.Steps.{nobody, setUpAs, setUpOf, firstOfFram, answered, servedOf, stepOf}
 use Rattle.demands.specs.Leaving.{countsAfter, Leaves, SetUpLeaves}
-use Rattle.demands.proofs.Cases.{Each, of-any-call, a-refused-step-has-its-number, a-refused-set-up-has-its-number}
+use Rattle.demands.proofs.Cases.{Each, of-any-call, a-refused-step-has-its-number, a-refused-set-up-has-its-number, a-refused-set-up-is-no-0}
 
 -- nothing written is the written part of nothing
 nothing-sent : (reply : List ℕ) (n : ℕ) → n ≡ 0 → reply ≡ begun reply (take n reply)
@@ -62,6 +62,7 @@ module _ (u : Unit) (w : World) (receiver : Receiver) (message : List ℕ) where
         reply = nothing-sent (w .reply) (sentOf answer) silent;
         address = refl;
         fram-length = refl;
+        limit = refl;
       }
 
   counted : (answer : Answer) (which : ℕ) → numberOf answer ≡ 5 + which → which < 4 → countsAfter (numberOf answer) (w .diagnostics) ≡ countedUp (w .diagnostics) (firstCount + which)
@@ -82,6 +83,7 @@ module _ (u : Unit) (w : World) (receiver : Receiver) (message : List ℕ) where
         reply = nothing-sent (w .reply) (sentOf answer) silent;
         address = refl;
         fram-length = refl;
+        limit = refl;
       }
 
   -- a command answered
@@ -96,6 +98,7 @@ module _ (u : Unit) (w : World) (receiver : Receiver) (message : List ℕ) where
         reply = something-sent (w .reply) (packedOf (replyMessage 1 destination source control bytes));
         address = refl;
         fram-length = refl;
+        limit = refl;
       })
       (λ _. record {
         nothing-by-a-refused-call = λ high. absurd (omega arith);
@@ -104,6 +107,7 @@ module _ (u : Unit) (w : World) (receiver : Receiver) (message : List ℕ) where
         reply = nothing-sent (w .reply) 0 refl;
         address = refl;
         fram-length = refl;
+        limit = refl;
       })
   a-command destination source control field refused =
       either-way (λ (s : Said). Leaves u w (outcome next (s .answer) (withReply heard (s .reply)))) (polls control) _ _
@@ -114,6 +118,7 @@ module _ (u : Unit) (w : World) (receiver : Receiver) (message : List ℕ) where
         reply = something-sent (w .reply) (packedOf (replyMessage 0 destination source control field));
         address = refl;
         fram-length = refl;
+        limit = refl;
       })
       (λ _. quiet Refused (omega arith) refl refl)
   a-command destination source control field unfitted = quiet Unfitted (omega arith) refl refl
@@ -124,7 +129,7 @@ module _ (u : Unit) (w : World) (receiver : Receiver) (message : List ℕ) where
         taken = quiet Taken (omega arith) refl refl;
         elsewhere = quiet Elsewhere (omega arith) refl refl;
         dropped = a-drop;
-        commanded = λ destination source control field short. a-command destination source control field (commandOf longestData firstOfFram (codeOf control) (w .diagnostics) (heldOf next heard) field);
+        commanded = λ destination source control field short. a-command destination source control field (commandOf (u .limit) firstOfFram (codeOf control) (w .diagnostics) (heldOf next heard) field);
       }
 
 -- ---- a call that is refused
@@ -152,6 +157,7 @@ high-sends BadSums high = refl
 high-sends BadDiagnostics high = refl
 high-sends BadBuffers high = refl
 high-sends BadCount high = refl
+high-sends BadLimit high = refl
 
 -- For any record, byte and lent buffers of any length.
 pub what-every-answer-leaves : (u : Unit) (byte : ℕ) (w : World) → Leaves u w (stepOf u byte w)
@@ -165,31 +171,32 @@ what-every-answer-leaves u byte w =
       reply = nothing-sent (w .reply) (sentOf answer) (high-sends answer high);
       address = refl;
       fram-length = refl;
+      limit = refl;
     })
     (λ _. each-case u w _ _)
 
 -- What the message buffer holds after a call that is not refused: what the line's receiver stores, and closing a run stores nothing.
 pub what-the-message-buffer-holds : (u : Unit) (byte : ℕ) (w : World) → stepFit u (lengthsOf w) ≡ Fits
-    → stepOf u byte w .world .message ≡ receiveOf messageSize (u .receiver) byte (w .message) .message
+    → stepOf u byte w .world .message ≡ receiveOf (largestMessage (u .limit)) (u .receiver) byte (w .message) .message
 unfolding answered
 what-the-message-buffer-holds u byte w fits =
-    of-any-call (λ (o : Outcome). o .world .message ≡ receiveOf messageSize (u .receiver) byte (w .message) .message) u byte w
+    of-any-call (λ (o : Outcome). o .world .message ≡ receiveOf (largestMessage (u .limit)) (u .receiver) byte (w .message) .message) u byte w
     (λ answer e. let z : Fits ≡ Unfit answer = sym fits ∙ e in let o : _≡_ {A = ℕ} 0 1 = cc in absurd (omega arith))
     (λ _. record { taken = refl; elsewhere = refl; dropped = λ answer which number four silent. refl; commanded = λ destination source control field short. refl })
 
--- For any address and lent buffers of any length.
-pub what-set-up-leaves : (address : ℕ) (w : World) → SetUpLeaves address w (setUpOf address w)
+-- For any address, limit and lent buffers of any length.
+pub what-set-up-leaves : (address limit : ℕ) (w : World) → SetUpLeaves address limit w (setUpOf address limit w)
 unfolding setUpOf
-what-set-up-leaves address w = apart (setUpFit address (lengthsOf w)) refl
+what-set-up-leaves address limit w = apart (setUpFit address limit (lengthsOf w)) refl
   where
-    apart : (f : Fit) → setUpFit address (lengthsOf w) ≡ f → SetUpLeaves address w (setUpAs f address w)
+    apart : (f : Fit) → setUpFit address limit (lengthsOf w) ≡ f → SetUpLeaves address limit w (setUpAs f address limit w)
     apart Fits e = record { set-up = λ _. (refl, refl); refused = λ other. absurd (other refl) }
     apart (Unfit answer) e =
-        let number = a-refused-set-up-has-its-number address (lengthsOf w) answer e in
-        record { set-up = λ none. absurd (omega arith); refused = λ _. (number .0, number .1, refl, refl) }
+        let number = a-refused-set-up-has-its-number address limit (lengthsOf w) answer e in
+        record { set-up = λ none. absurd (a-refused-set-up-is-no-0 (numberOf answer) number none); refused = λ _. (number, refl, refl) }
 
 -- A refused set-up hands back a record with which every later call is refused.
-pub a-refused-set-up-is-never-served : (address : ℕ) (w : World) (answer : Answer) → setUpFit address (lengthsOf w) ≡ Unfit answer → (byte : ℕ) (v : World)
-    → stepOf (setUpOf address w .unit) byte v ≡ outcome nobody BadAddress v
+pub a-refused-set-up-is-never-served : (address limit : ℕ) (w : World) (answer : Answer) → setUpFit address limit (lengthsOf w) ≡ Unfit answer
+    → (byte : ℕ) (v : World) → stepOf (setUpOf address limit w .unit) byte v ≡ outcome nobody BadAddress v
 unfolding setUpOf stepOf stepFit lengthsFit judgeOf servedOf
-a-refused-set-up-is-never-served address w answer e byte v = ap (λ f. stepOf (setUpAs f address w .unit) byte v) e
+a-refused-set-up-is-never-served address limit w answer e byte v = ap (λ f. stepOf (setUpAs f address limit w .unit) byte v) e

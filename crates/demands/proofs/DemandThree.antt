@@ -24,7 +24,7 @@ use Rattle.memory.proofs.Tests.{either-side}
 use Rattle.blocks.proofs.Refreshing.{fresh-length, right-sums-stay-right, a-store-keeps-the-memory's-length}
 use Rattle.blocks.proofs.Ranges.{a-range-under-right-sums-is-fresh}
 use Rattle.carrying.specs.declared.Mode.{Mode}
-use Rattle.carrying.specs.Ending.{longestData, Ending, done, refused, unfitted, atPlace}
+use Rattle.carrying.specs.Ending.{isLimit, Ending, done, refused, unfitted, atPlace}
 use Rattle.carrying.specs.Held.{Held, held, inside, reading, onEdac}
 use Rattle.carrying.proofs.Room.{either-way}
 use Rattle.fram_commands.specs.Peek.{peekOf}
@@ -43,17 +43,18 @@ use Rattle.command.specs.Command.{commandOf}
 use Rattle.command.proofs.Codes.{of-any-command, in-either-mode}
 use Rattle.judging.specs.declared.Unit.{Unit}
 use Rattle.judging.specs.declared.fitting.Fit.the-variants.{Fits}
-use Rattle.judging.specs.Fitting.{framFits, largestCount, lengthsFit, setUpFit}
-use Rattle.judging.specs.Judging.{withReceiver}
-use Rattle.judging.proofs.Serving.{Passed, all-passed, a-served-set-up-fits}
+use Rattle.judging.specs.Fitting.{framFits, limitFit, largestCount, lengthsFit, setUpFit}
+use Rattle.judging.specs.Judging.{largestMessage, withReceiver}
+use Rattle.judging.proofs.Serving.{Passed, all-passed, a-served-set-up-fits, a-served-set-up-is-limited}
 use Rattle.replying.specs.Replies.{codeOf, polls, replyMessage}
 use Rattle.unit.specs.World.{World, lengthsOf, Outcome, withMessage, heldOf}
 use Rattle.unit.specs.Steps.{setUpOf, firstOfFram, answered, stepOf}
 use Rattle.unit.proofs.Serving.{set-up-served}
-use Rattle.demands.specs.Calls.{Call, fedOf, delivering, Suits, Lending, its-memory, another, Own, own, withMemory, ownOf, calledOf, Right, Inside}
+use Rattle.demands.specs.Calls.{Call, fedOf, delivering, Suits, Serves, Lending, its-memory, another, Own, own, withMemory, ownOf, calledOf, Right, Inside}
 use Rattle.demands.specs.Orders.{Sends, withItsMessage, leftBy, sentBy, cameTo}
 use Rattle.demands.proofs.Cases.{of-any-call}
 use Rattle.demands.proofs.DemandOne.{what-every-answer-leaves}
+use Rattle.demands.proofs.DemandTwo.{above-every-message}
 use Rattle.demands.proofs.Orders.{a-sent-command-is-carried-out, a-command-that-is-done-sends-its-data}
 
 -- what is kept from call to call: right sums, and the memory's length
@@ -155,7 +156,7 @@ step-keeps : (size : ℕ) (u : Unit) (byte : ℕ) (w : World) → GoodWorld size
 step-keeps size u byte w good =
     of-any-call (λ (o : Outcome). GoodWorld size (o .world)) u byte w (λ answer e. good)
     (λ _.
-    let got = receiveOf messageSize (u .receiver) byte (w .message) in
+    let got = receiveOf (largestMessage (u .limit)) (u .receiver) byte (w .message) in
     let next = withReceiver u (got .receiver) in
     let lent = withMessage w (got .message) in
     record {
@@ -163,56 +164,62 @@ step-keeps size u byte w good =
       elsewhere = good;
       dropped = λ answer which number four silent. good;
       commanded = λ destination source control field short.
-          answered-keeps size next destination source control field (commandOf longestData firstOfFram (codeOf control) (w .diagnostics) (heldOf next lent) field) lent good
-          (command-keeps size longestData firstOfFram (codeOf control) (w .diagnostics) (heldOf next lent) field good);
+          answered-keeps size next destination source control field (commandOf (u .limit) firstOfFram (codeOf control) (w .diagnostics) (heldOf next lent) field) lent good
+          (command-keeps size (u .limit) firstOfFram (codeOf control) (w .diagnostics) (heldOf next lent) field good);
     })
 
-step-low : (u : Unit) (byte : ℕ) (w : World) → u .receiver .count ≤ largestCount → stepOf u byte w .unit .receiver .count ≤ largestCount
+step-low : (u : Unit) (byte : ℕ) (w : World) → u .receiver .count ≤ largestMessage (u .limit) + 1 → stepOf u byte w .unit .receiver .count ≤ largestMessage (u .limit) + 1
 unfolding answered
 step-low u byte w low =
-    let still = the-count-never-passes-one-above-the-largest messageSize (byte ∷ []) (u .receiver) (w .message) low in
-    of-any-call (λ (o : Outcome). o .unit .receiver .count ≤ largestCount) u byte w (λ answer e. low)
+    let still = the-count-never-passes-one-above-the-largest (largestMessage (u .limit)) (byte ∷ []) (u .receiver) (w .message) low in
+    of-any-call (λ (o : Outcome). o .unit .receiver .count ≤ largestMessage (u .limit) + 1) u byte w (λ answer e. low)
     (λ _. record { taken = still; elsewhere = still; dropped = λ answer which number four silent. still; commanded = λ destination source control field short. still })
 
 -- what a unit has from its set-up on
-record Goes (address size : ℕ) (s : Own) : Type 0 where
+record Goes (address limit size : ℕ) (s : Own) : Type 0 where
   good : Good size (s .memory)
   same-address : s .unit .address ≡ address
+  same-limit : s .unit .limit ≡ limit
   same-length : s .unit .«fram_len» ≡ size
-  low : s .unit .receiver .count ≤ largestCount
+  low : s .unit .receiver .count ≤ largestMessage limit + 1
 
-goes-on : (address size : ℕ) (s : Own) (byte : ℕ) (w : World) (memory : Kept) → Goes address size s → Good size memory → Goes address size (own (stepOf (s .unit) byte w .unit) memory)
-goes-on address size s byte w memory g good =
-    let leaves = what-every-answer-leaves (s .unit) byte w in record {
+goes-on : (address limit size : ℕ) (s : Own) (byte : ℕ) (w : World) (memory : Kept) → Goes address limit size s → Good size memory
+    → Goes address limit size (own (stepOf (s .unit) byte w .unit) memory)
+goes-on address limit size s byte w memory g good =
+    let leaves = what-every-answer-leaves (s .unit) byte w in
+    record {
       good = good;
       same-address = leaves .address ∙ g .same-address;
+      same-limit = leaves .limit ∙ g .same-limit;
       same-length = leaves .fram-length ∙ g .same-length;
-      low = step-low (s .unit) byte w (g .low);
+      low =
+          subst (λ (n : ℕ). stepOf (s .unit) byte w .unit .receiver .count ≤ largestMessage n + 1) (g .same-limit)
+          (step-low (s .unit) byte w (subst (λ (n : ℕ). s .unit .receiver .count ≤ largestMessage n + 1) (sym (g .same-limit)) (g .low)));
     }
 
 -- and any calls
-calls-keep : (address size : ℕ) (calls : List Lending) (s : Own) → Goes address size s → Goes address size (calledOf s calls)
-calls-keep address size [] s g = g
-calls-keep address size (its-memory c ∷ calls) s g =
+calls-keep : (address limit size : ℕ) (calls : List Lending) (s : Own) → Goes address limit size s → Goes address limit size (calledOf s calls)
+calls-keep address limit size [] s g = g
+calls-keep address limit size (its-memory c ∷ calls) s g =
     let o = stepOf (s .unit) (c .byte) (withMemory (c .lent) (s .memory)) in
-    calls-keep address size calls (ownOf o)
-    (goes-on address size s (c .byte) (withMemory (c .lent) (s .memory)) (kept (o .world .fram) (o .world .sums)) g (step-keeps size (s .unit) (c .byte) (withMemory (c .lent) (s .memory)) (g .good)))
-calls-keep address size (another c ∷ calls) s g =
-    calls-keep address size calls (own (stepOf (s .unit) (c .byte) (c .lent) .unit) (s .memory)) (goes-on address size s (c .byte) (c .lent) (s .memory) g (g .good))
+    calls-keep address limit size calls (ownOf o)
+    (goes-on address limit size s (c .byte) (withMemory (c .lent) (s .memory)) (kept (o .world .fram) (o .world .sums)) g (step-keeps size (s .unit) (c .byte) (withMemory (c .lent) (s .memory)) (g .good)))
+calls-keep address limit size (another c ∷ calls) s g =
+    calls-keep address limit size calls (own (stepOf (s .unit) (c .byte) (c .lent) .unit) (s .memory)) (goes-on address limit size s (c .byte) (c .lent) (s .memory) g (g .good))
 
 -- set-up makes all sums right
-set-up-goes : (address : ℕ) (w : World) → setUpFit address (lengthsOf w) ≡ Fits → Goes address (length (w .fram)) (ownOf (setUpOf address w))
-set-up-goes address w e =
-    subst (λ o. Goes address (length (w .fram)) (ownOf o)) (set-up-served address w (freshSums (w .fram)) e refl)
-    (record { good = (refl, refl); same-address = refl; same-length = refl; low = omega arith })
+set-up-goes : (address limit : ℕ) (w : World) → setUpFit address limit (lengthsOf w) ≡ Fits → Goes address limit (length (w .fram)) (ownOf (setUpOf address limit w))
+set-up-goes address limit w e =
+    subst (λ o. Goes address limit (length (w .fram)) (ownOf o)) (set-up-served address limit w (freshSums (w .fram)) e refl)
+    (record { good = (refl, refl); same-address = refl; same-limit = refl; same-length = refl; low = omega arith })
 
 -- Demand 3, on the sums. Take a unit that was set up, and let nothing but the unit change its FRAM, sums or record. After any calls,
 -- whatever bytes and whatever else they lend, of any length, refused or not, each block's kept sum is the CRC of that block as it now
 -- stands.
-pub after-any-calls-the-sums-are-right : (address : ℕ) (w : World) → setUpFit address (lengthsOf w) ≡ Fits → (calls : List Lending)
-    → Right (calledOf (ownOf (setUpOf address w)) calls .memory)
-after-any-calls-the-sums-are-right address w e calls =
-    calls-keep address (length (w .fram)) calls (ownOf (setUpOf address w)) (set-up-goes address w e) .good .0
+pub after-any-calls-the-sums-are-right : (address limit : ℕ) (w : World) → setUpFit address limit (lengthsOf w) ≡ Fits → (calls : List Lending)
+    → Right (calledOf (ownOf (setUpOf address limit w)) calls .memory)
+after-any-calls-the-sums-are-right address limit w e calls =
+    calls-keep address limit (length (w .fram)) calls (ownOf (setUpOf address limit w)) (set-up-goes address limit w e) .good .0
 
 -- ---- the CRC that is answered
 
@@ -270,36 +277,47 @@ module _ (blocks : ℕ) (memory : Kept) (right : Right memory) (whole : length (
       ∙ ap (λ n. done ((bytes32 first ++ bytes32 last) ++ bytes16 n) tt)
       (ap₂ (λ f l. rangeSum memory (first - firstOfFram) (first - firstOfFram + rangeSize f l)) one two ∙ fresh-range)
 
-  the-command-answers-it : (mode : Mode) (edac diagnostics : List ℕ) → commandOf longestData firstOfFram 0x06 diagnostics (held mode edac memory) (bytes32 first ++ bytes32 last)
+  the-command-answers-it : (room : ℕ) (mode : Mode) (edac diagnostics : List ℕ) → commandOf room firstOfFram 0x06 diagnostics (held mode edac memory) (bytes32 first ++ bytes32 last)
       ≡ done ((bytes32 first ++ bytes32 last) ++ bytes16 (sumOf (stretch (first - firstOfFram) (last - first + 1) (memory .fram)))) (held mode edac memory)
-  the-command-answers-it mode edac diagnostics =
-      in-either-mode longestData firstOfFram 0x06 diagnostics (held mode edac memory) (bytes32 first ++ bytes32 last) 0x06
+  the-command-answers-it room mode edac diagnostics =
+      in-either-mode room firstOfFram 0x06 diagnostics (held mode edac memory) (bytes32 first ++ bytes32 last) 0x06
       (reading (held mode edac memory) (crcOf firstOfFram memory (bytes32 first ++ bytes32 last))) refl refl
       ∙ ap (reading (held mode edac memory)) a-fresh-answer
 
 -- ---- after any calls on a unit that was set up
 
-module _ (address : ℕ) (w : World) (e : setUpFit address (lengthsOf w) ≡ Fits) (calls : List Lending) where
+module _ (address limit : ℕ) (w : World) (e : setUpFit address limit (lengthsOf w) ≡ Fits) (calls : List Lending) where
   abbrev now : Own
-  now = calledOf (ownOf (setUpOf address w)) calls
+  now = calledOf (ownOf (setUpOf address limit w)) calls
 
-  goes : Goes address (length (w .fram)) now
-  goes = calls-keep address (length (w .fram)) calls (ownOf (setUpOf address w)) (set-up-goes address w e)
+  goes : Goes address limit (length (w .fram)) now
+  goes = calls-keep address limit (length (w .fram)) calls (ownOf (setUpOf address limit w)) (set-up-goes address limit w e)
 
-  passed : Passed address (framFits (length (w .fram))) (lengthsOf w) Fits
+  passed : Passed address (framFits (length (w .fram))) (lengthsOf w) (limitFit limit)
   unfolding setUpFit
-  passed = all-passed address (framFits (length (w .fram))) (lengthsOf w) Fits e
+  passed = all-passed address (framFits (length (w .fram))) (lengthsOf w) (limitFit limit) e
 
   -- Demand 3, on the CRC answered. A CRC command (0x06) with any range inside FRAM, in either mode, with any EDAC memory and any
   -- diagnostics, is done, changes nothing and answers the CRC of the bytes now stored there, worked out afresh.
   pub the-CRC-answered-is-fresh : (edac diagnostics : List ℕ) (first last : ℕ) → Inside (now .memory) first last
-      → commandOf longestData firstOfFram 0x06 diagnostics (held (now .unit .mode) edac (now .memory)) (bytes32 first ++ bytes32 last)
+      → commandOf (now .unit .limit) firstOfFram 0x06 diagnostics (held (now .unit .mode) edac (now .memory)) (bytes32 first ++ bytes32 last)
       ≡ done ((bytes32 first ++ bytes32 last) ++ bytes16 (sumOf (stretch (first - firstOfFram) (last - first + 1) (now .memory .fram))))
       (held (now .unit .mode) edac (now .memory))
   the-CRC-answered-is-fresh edac diagnostics first last range =
-      the-command-answers-it (length (w .sums)) (now .memory) (goes .good .0) (goes .good .1 ∙ a-served-set-up-fits address (lengthsOf w) e .sums-fit)
+      the-command-answers-it (length (w .sums)) (now .memory) (goes .good .0) (goes .good .1 ∙ a-served-set-up-fits address limit (lengthsOf w) e .sums-fit)
       (subst (λ n. n ≤ 262144) (sym (goes .good .1)) (no-longer (length (w .fram)) (passed .fram-tested)))
-      first last range (now .unit .mode) edac diagnostics
+      first last range (now .unit .limit) (now .unit .mode) edac diagnostics
+
+  -- Its limit is the one that was set up, and its count never passes limit + 6 (02, T-06); so neither 26 nor 29 ever refuses it.
+  pub the-limit-stays-and-the-count-stops-above-it : (now .unit .limit ≡ limit) × (now .unit .receiver .count ≤ limit + 6)
+  the-limit-stays-and-the-count-stops-above-it = (goes .same-limit, omega (arith, goes .low))
+
+  pub a-unit-that-was-set-up-serves : Serves (now .unit)
+  a-unit-that-was-set-up-serves =
+      let limited = a-served-set-up-is-limited address limit (lengthsOf w) e in (
+        omega (arith, goes .low, above-every-message limit limited),
+        ap isLimit (goes .same-limit) ∙ limited,
+      )
 
   -- Such a unit goes on being served: a call that lends its FRAM and sums, and the rest in the right lengths, is not refused.
   pub a-unit-that-was-set-up-goes-on-being-served : (c : Call) (message : List ℕ) → length (c .lent .edac) ≡ edacSize → c .lent .fram ≡ now .memory .fram
@@ -308,7 +326,7 @@ module _ (address : ℕ) (w : World) (e : setUpFit address (lengthsOf w) ≡ Fit
   unfolding lengthsFit freshSums
   a-unit-that-was-set-up-goes-on-being-served c message edac fram sums diagnostics long room =
       let size : length (c .lent .fram) ≡ length (w .fram) = ap length fram ∙ goes .good .1 in
-      let whole : length (w .fram) ≡ blockStart (length (w .sums)) = a-served-set-up-fits address (lengthsOf w) e .sums-fit in
+      let whole : length (w .fram) ≡ blockStart (length (w .sums)) = a-served-set-up-fits address limit (lengthsOf w) e .sums-fit in
       let fresh : length (c .lent .sums) ≡ length (now .memory .fram) / 256 =
       ap length sums ∙ ap length (goes .good .0) ∙ fresh-length 0 (length (now .memory .fram) / 256) (now .memory .fram)
       in
@@ -338,8 +356,8 @@ module _ (address : ℕ) (w : World) (e : setUpFit address (lengthsOf w) ≡ Fit
 
     came : cameTo (now .unit) c control asked ≡ done answer (held (now .unit .mode) (c .lent .edac) (now .memory))
     came =
-        ap₂ (λ (f s : List ℕ). commandOf longestData firstOfFram (codeOf control) (c .lent .diagnostics) (held (now .unit .mode) (c .lent .edac) (kept f s)) asked) its-fram its-sums
-        ∙ ap (λ (n : ℕ). commandOf longestData firstOfFram n (c .lent .diagnostics) (held (now .unit .mode) (c .lent .edac) (now .memory)) asked) code
+        ap₂ (λ (f s : List ℕ). commandOf (now .unit .limit) firstOfFram (codeOf control) (c .lent .diagnostics) (held (now .unit .mode) (c .lent .edac) (kept f s)) asked) its-fram its-sums
+        ∙ ap (λ (n : ℕ). commandOf (now .unit .limit) firstOfFram n (c .lent .diagnostics) (held (now .unit .mode) (c .lent .edac) (now .memory)) asked) code
         ∙ the-CRC-answered-is-fresh (c .lent .edac) (c .lent .diagnostics) first last range
 
     pub the-CRC-on-the-line-is-fresh : fedOf (now .unit) message sending c

@@ -22,55 +22,70 @@ use Rattle.line.proofs.Escaping.{the-room-is-enough-for-the-longest}
 use Rattle.line.specs.Delivery.{deliveredOf}
 use Rattle.line.specs.Unpacking.{Unpacked, unpackOf, heardOf, keptOf, NoFend}
 use Rattle.line.proofs.Runs.{a-closed-run-is-heard-counted-and-stored-as-it-unpacks}
-use Rattle.line.proofs.Bounds.{the-count-never-passes-one-above-the-largest, the-buffer-keeps-its-length}
+use Rattle.line.proofs.Bounds.{the-count-never-passes-a-bound-above-the-largest, the-buffer-keeps-its-length}
 use Rattle.line.proofs.RoundTrip.{a-body-unpacks-to-its-message, a-body-has-no-FEND, sound-at-the-close, a-body-after-any-FEND-is-received-as-its-message, what-is-packed-is-received-back}
 use Rattle.field.specs.Fields.{word16At, bytes16}
 use Rattle.field.proofs.Words.{two-bytes}
 use Rattle.memory.specs.Bytes.{stretch, begun}
-use Rattle.carrying.specs.Ending.{longestData, Ending, done, refused, unfitted}
+use Rattle.carrying.specs.Ending.{isLimit, Ending, done, refused, unfitted}
 use Rattle.carrying.specs.Held.{Held}
 use Rattle.carrying.proofs.Room.{either-way, Roomy, part}
+use Rattle.carrying.proofs.Limits.{within-both-ends}
 use Rattle.command.specs.Command.{commandOf}
 use Rattle.command.proofs.Room.{every-reply-has-room}
-use Rattle.answer.specs.declared.Answer.the-variants.{Taken, Oversize, Elsewhere, BadCount}
+use Rattle.answer.specs.declared.Answer.the-variants.{Taken, Oversize, Elsewhere}
 use Rattle.answer.specs.Answers.{sentOf}
 use Rattle.judging.specs.declared.Unit.{Unit}
 use Rattle.judging.specs.declared.Verdict.the-variants.{Quiet, Command}
 use Rattle.judging.specs.declared.fitting.Fit.the-variants.{Fits, Unfit}
-use Rattle.judging.specs.Fitting.{framAsSetUp, countFit, largestCount, lengthsFit, stepFit}
-use Rattle.judging.specs.Judging.{dropped, soundOf, runOf, verdictOf, withReceiver, receivedOf, judgeOf}
-use Rattle.judging.proofs.Serving.{a-served-step-fits}
+use Rattle.judging.specs.Fitting.{framAsSetUp, limitFit, countFit, largestCount, lengthsFit, stepFit}
+use Rattle.judging.specs.Judging.{largestMessage, dropped, soundOf, runOf, verdictOf, withReceiver, receivedOf, judgeOf}
+use Rattle.judging.proofs.Ways.{an-oversize}
+use Rattle.judging.proofs.Serving.{a-served-step-fits, a-served-step-is-limited}
 use Rattle.replying.specs.Replies.{codeOf, polls, replyControl, sealed, replyMessage, Said, saying, saidOf}
 use Rattle.unit.specs.World.{World, lengthsOf, Outcome, outcome, withMessage, heldOf}
 use Rattle.unit.specs.Steps.{firstOfFram, answered, orderedOf, commandedOf, servedOf, stepOf}
-use Rattle.demands.specs.Calls.{Call, Fed, lentTo, answering, fedOf, bytesOf, delivering, Suits, AllSuit, Idle, comesTo, addressedOf, answerMessage, Bytes}
+use Rattle.demands.specs.Calls.{Call, Fed, lentTo, answering, fedOf, bytesOf, delivering, Suits, AllSuit, Serves, Idle, comesTo, addressedOf, answerMessage, Bytes}
 use Rattle.demands.proofs.Cases.{of-anything-heard, of-any-call, a-refused-step-has-its-number}
 use Rattle.demands.proofs.DemandOne.{high-sends}
 
 -- ---- byte by byte
 
-counts : (count : ℕ) → count ≤ largestCount → countFit count ≡ Fits
-counts count low = ap (λ t. cond t Fits (Unfit BadCount)) (le-leb count largestCount low)
+-- what the limit says of lengths
+pub no-longer-than-any : (limit : ℕ) → isLimit limit ≡ true → largestMessage limit ≤ messageSize
+no-longer-than-any limit limited = omega (arith, within-both-ends limit limited .1)
 
-module _ (u : Unit) (message : List ℕ) (c : Call) (low : u .receiver .count ≤ largestCount) (suits : Suits (u .address) (u .«fram_len») (length message) c) where
+pub above-every-message : (limit : ℕ) → isLimit limit ≡ true → largestMessage limit < largestCount
+above-every-message limit limited = omega (arith, within-both-ends limit limited .1)
+
+at-least-a-PING : (limit : ℕ) → isLimit limit ≡ true → 17 ≤ limit
+at-least-a-PING limit limited = omega (arith, within-both-ends limit limited .0)
+
+is-served : (u : Unit) → Serves u → countFit (u .receiver .count) (limitFit (u .limit)) ≡ Fits
+is-served u serves = simp (le-leb (u .receiver .count) largestCount (serves .0), serves .1)
+
+module _ (u : Unit) (message : List ℕ) (c : Call) (serves : Serves u) (suits : Suits (u .address) (u .«fram_len») (length message) c) where
   abbrev got : Reception
-  got = receiveOf messageSize (u .receiver) (c .byte) message
+  got = receiveOf (largestMessage (u .limit)) (u .receiver) (c .byte) message
 
   pub a-call-that-suits-fits : stepFit u (lengthsOf (lentTo message c)) ≡ Fits
   unfolding stepFit
   a-call-that-suits-fits =
-      ap (λ next. lengthsFit (u .address) (framAsSetUp (length (c .lent .fram)) (u .«fram_len»)) (lengthsOf (lentTo message c)) next) (counts (u .receiver .count) low)
+      ap (λ next. lengthsFit (u .address) (framAsSetUp (length (c .lent .fram)) (u .«fram_len»)) (lengthsOf (lentTo message c)) next) (is-served u serves)
       ∙ suits
 
   served : stepOf u (c .byte) (lentTo message c) ≡ comesTo (withReceiver u (got .receiver)) (got .heard) (lentTo (got .message) c)
   unfolding stepOf judgeOf receivedOf
   served = simp a-call-that-suits-fits
 
-  still-low : got .receiver .count ≤ largestCount
-  still-low = the-count-never-passes-one-above-the-largest messageSize (c .byte ∷ []) (u .receiver) message low
+  still-serves : Serves (withReceiver u (got .receiver))
+  still-serves = (
+    the-count-never-passes-a-bound-above-the-largest (largestMessage (u .limit)) largestCount (above-every-message (u .limit) (serves .1)) (c .byte ∷ []) (u .receiver) message (serves .0),
+    serves .1,
+  )
 
   still-long : length (got .message) ≡ length message
-  still-long = the-buffer-keeps-its-length messageSize (c .byte ∷ []) (u .receiver) message
+  still-long = the-buffer-keeps-its-length (largestMessage (u .limit)) (c .byte ∷ []) (u .receiver) message
 
 first-or : Heard → List Heard → Heard
 first-or h [] = h
@@ -81,46 +96,46 @@ but-first [] = []
 but-first (_ ∷ l) = l
 
 -- calls of which all but the last are only taken leave what the last one comes to
-all-but-the-last : (calls : List Call) (c : Call) (h : Heard) (u : Unit) (message : List ℕ) → u .receiver .count ≤ largestCount
+all-but-the-last : (calls : List Call) (c : Call) (h : Heard) (u : Unit) (message : List ℕ) → Serves u
     → AllSuit (u .address) (u .«fram_len») (length message) calls → Suits (u .address) (u .«fram_len») (length message) c
-    → feedOf messageSize (u .receiver) (bytesOf calls ++ (c .byte ∷ [])) message .heard ≡ replicate (length calls) heard.Taken ++ (h ∷ [])
+    → feedOf (largestMessage (u .limit)) (u .receiver) (bytesOf calls ++ (c .byte ∷ [])) message .heard ≡ replicate (length calls) heard.Taken ++ (h ∷ [])
     → fedOf u message calls c
     ≡ delivering (length calls)
-    (comesTo (withReceiver u (feedOf messageSize (u .receiver) (bytesOf calls ++ (c .byte ∷ [])) message .receiver)) h
-    (lentTo (feedOf messageSize (u .receiver) (bytesOf calls ++ (c .byte ∷ [])) message .message) c))
+    (comesTo (withReceiver u (feedOf (largestMessage (u .limit)) (u .receiver) (bytesOf calls ++ (c .byte ∷ [])) message .receiver)) h
+    (lentTo (feedOf (largestMessage (u .limit)) (u .receiver) (bytesOf calls ++ (c .byte ∷ [])) message .message) c))
 unfolding servedOf verdictOf first-or but-first
-all-but-the-last [] c h u message low all last e =
-    let same : got u message c low last .heard ≡ h = ap (first-or h) e in
+all-but-the-last [] c h u message serves all last e =
+    let same : got u message c serves last .heard ≡ h = ap (first-or h) e in
     ap (delivering 0)
-    (served u message c low last ∙ ap (λ x. comesTo (withReceiver u (got u message c low last .receiver)) x (lentTo (got u message c low last .message) c)) same)
-all-but-the-last (d ∷ calls) c h u message low all last e =
-    let next = got u message d low (all .0) in
+    (served u message c serves last ∙ ap (λ x. comesTo (withReceiver u (got u message c serves last .receiver)) x (lentTo (got u message c serves last .message) c)) same)
+all-but-the-last (d ∷ calls) c h u message serves all last e =
+    let next = got u message d serves (all .0) in
     let same : next .heard ≡ heard.Taken = ap (first-or h) e in
-    let long : length (next .message) ≡ length message = still-long u message d low (all .0) in
+    let long : length (next .message) ≡ length message = still-long u message d serves (all .0) in
     ap (λ o. answering (o .answer) (fedOf (o .unit) (o .world .message) calls c))
-    (served u message d low (all .0) ∙ ap (λ x. comesTo (withReceiver u (next .receiver)) x (lentTo (next .message) d)) same)
+    (served u message d serves (all .0) ∙ ap (λ x. comesTo (withReceiver u (next .receiver)) x (lentTo (next .message) d)) same)
     ∙ ap (answering Taken)
-    (all-but-the-last calls c h (withReceiver u (next .receiver)) (next .message) (still-low u message d low (all .0))
+    (all-but-the-last calls c h (withReceiver u (next .receiver)) (next .message) (still-serves u message d serves (all .0))
     (subst (λ n. AllSuit (u .address) (u .«fram_len») n calls) (sym long) (all .1)) (subst (λ n. Suits (u .address) (u .«fram_len») n c) (sym long) last) (ap but-first e))
 
 -- what is lent suits, and so the message buffer is long enough
-long-enough : (u : Unit) (message : List ℕ) (c : Call) → u .receiver .count ≤ largestCount → Suits (u .address) (u .«fram_len») (length message) c → messageSize ≤ length message
-long-enough u message c low suits = a-served-step-fits u (lengthsOf (lentTo message c)) (a-call-that-suits-fits u message c low suits) .message-fits
+long-enough : (u : Unit) (message : List ℕ) (c : Call) → Serves u → Suits (u .address) (u .«fram_len») (length message) c → messageSize ≤ length message
+long-enough u message c serves suits = a-served-step-fits u (lengthsOf (lentTo message c)) (a-call-that-suits-fits u message c serves suits) .message-fits
 
 as-many : (calls : List Call) → length (bytesOf calls) ≡ length calls
 as-many [] = refl
 as-many (d ∷ calls) = ap suc (as-many calls)
 
 -- the calls of one run and its FEND, after a FEND
-module _ (u : Unit) (message : List ℕ) (calls : List Call) (c : Call) (run : List ℕ) (is : bytesOf calls ≡ run) (ends : c .byte ≡ fend)
+module _ (u : Unit) (message : List ℕ) (calls : List Call) (c : Call) (run : List ℕ) (limited : isLimit (u .limit) ≡ true) (is : bytesOf calls ≡ run) (ends : c .byte ≡ fend)
     (all : AllSuit (u .address) (u .«fram_len») (length message) calls) (last : Suits (u .address) (u .«fram_len») (length message) c) where
-  closed : (f : Feed) → feedOf messageSize opened (run ++ (fend ∷ [])) message ≡ f → (h : Heard) → f .heard ≡ replicate (length run) heard.Taken ++ (h ∷ [])
+  closed : (f : Feed) → feedOf (largestMessage (u .limit)) opened (run ++ (fend ∷ [])) message ≡ f → (h : Heard) → f .heard ≡ replicate (length run) heard.Taken ++ (h ∷ [])
       → fedOf (withReceiver u opened) message calls c ≡ delivering (length calls) (comesTo (withReceiver u (f .receiver)) h (lentTo (f .message) c))
   closed f e h hears =
       let same : bytesOf calls ++ (c .byte ∷ []) ≡ run ++ (fend ∷ []) = ap₂ (λ (l : List ℕ) (n : ℕ). l ++ (n ∷ [])) is ends in
-      let whole : feedOf messageSize opened (bytesOf calls ++ (c .byte ∷ [])) message ≡ f = ap (λ l. feedOf messageSize opened l message) same ∙ e in
+      let whole : feedOf (largestMessage (u .limit)) opened (bytesOf calls ++ (c .byte ∷ [])) message ≡ f = ap (λ l. feedOf (largestMessage (u .limit)) opened l message) same ∙ e in
       let many : length run ≡ length calls = sym (ap length is) ∙ as-many calls in
-      all-but-the-last calls c h (withReceiver u opened) message (omega arith) all last
+      all-but-the-last calls c h (withReceiver u opened) message (omega arith, limited) all last
       (ap (λ (g : Feed). g .heard) whole ∙ hears ∙ ap (λ (n : ℕ). replicate n heard.Taken ++ (h ∷ [])) many)
       ∙ ap (λ (g : Feed). delivering (length calls) (comesTo (withReceiver u (g .receiver)) h (lentTo (g .message) c))) whole
 
@@ -129,36 +144,38 @@ module _ (u : Unit) (message : List ℕ) (calls : List Call) (c : Call) (run : L
   pub any-run-is-judged-as-it-unpacks : NoFend run
       → fedOf (withReceiver u opened) message calls c
       ≡ delivering (length calls)
-      (comesTo (withReceiver u opened) (heardOf messageSize run) (lentTo (keptOf messageSize run ++ drop (length (keptOf messageSize run)) message) c))
+      (comesTo (withReceiver u opened) (heardOf (largestMessage (u .limit)) run) (lentTo (keptOf (largestMessage (u .limit)) run ++ drop (length (keptOf (largestMessage (u .limit)) run)) message) c))
   any-run-is-judged-as-it-unpacks none =
-      let long = long-enough (withReceiver u opened) message c (omega arith) last in
-      let short : length (keptOf messageSize run) ≤ messageSize = part messageSize (unpackOf run .bytes) in
-      closed _ (a-closed-run-is-heard-counted-and-stored-as-it-unpacks messageSize run message none (omega arith)) (heardOf messageSize run) refl
+      let long = long-enough (withReceiver u opened) message c (omega arith, limited) last in
+      let enough = no-longer-than-any (u .limit) limited in
+      let short : length (keptOf (largestMessage (u .limit)) run) ≤ largestMessage (u .limit) = part (largestMessage (u .limit)) (unpackOf run .bytes) in
+      closed _ (a-closed-run-is-heard-counted-and-stored-as-it-unpacks (largestMessage (u .limit)) run message none (omega arith)) (heardOf (largestMessage (u .limit)) run) refl
 
-  body-judged : (m : List ℕ) → run ≡ bodyOf m → 0 < length m → length m ≤ messageSize
+  body-judged : (m : List ℕ) → run ≡ bodyOf m → 0 < length m → length m ≤ largestMessage (u .limit)
       → fedOf (withReceiver u opened) message calls c
       ≡ delivering (length calls) (comesTo (withReceiver u opened) (heard.Message (length m)) (lentTo (m ++ drop (length m) message) c))
   body-judged m body some within =
-      let long = long-enough (withReceiver u opened) message c (omega arith) last in
-      closed _ (ap (λ r. feedOf messageSize opened (r ++ (fend ∷ [])) message) body ∙ a-body-after-any-FEND-is-received-as-its-message messageSize m message some within (omega arith))
+      let long = long-enough (withReceiver u opened) message c (omega arith, limited) last in
+      let enough = no-longer-than-any (u .limit) limited in
+      closed _ (ap (λ r. feedOf (largestMessage (u .limit)) opened (r ++ (fend ∷ [])) message) body ∙ a-body-after-any-FEND-is-received-as-its-message (largestMessage (u .limit)) m message some within (omega arith))
       (heard.Message (length m)) (ap (λ (r : List ℕ). replicate (length r) heard.Taken ++ (heard.Message (length m) ∷ [])) (sym body))
 
 -- a call that is not refused leaves the receiver as the line leaves it
 pub the-receiver-is-the-line's : (u : Unit) (byte : ℕ) (w : World) → stepFit u (lengthsOf w) ≡ Fits
-    → stepOf u byte w .unit .receiver ≡ receiveOf messageSize (u .receiver) byte (w .message) .receiver
+    → stepOf u byte w .unit .receiver ≡ receiveOf (largestMessage (u .limit)) (u .receiver) byte (w .message) .receiver
 unfolding answered
 the-receiver-is-the-line's u byte w fits =
-    of-any-call (λ (o : Outcome). o .unit .receiver ≡ receiveOf messageSize (u .receiver) byte (w .message) .receiver) u byte w
+    of-any-call (λ (o : Outcome). o .unit .receiver ≡ receiveOf (largestMessage (u .limit)) (u .receiver) byte (w .message) .receiver) u byte w
     (λ answer e. let z : Fits ≡ Unfit answer = sym fits ∙ e in let o : _≡_ {A = ℕ} 0 1 = cc in absurd (omega arith))
     (λ _. record { taken = refl; elsewhere = refl; dropped = λ answer which number four silent. refl; commanded = λ destination source control field short. refl })
 
 -- A FEND that is served opens a run, whatever it closed.
-pub a-served-FEND-opens-a-run : (u : Unit) (message : List ℕ) (c : Call) → u .receiver .count ≤ largestCount → Suits (u .address) (u .«fram_len») (length message) c → c .byte ≡ fend
+pub a-served-FEND-opens-a-run : (u : Unit) (message : List ℕ) (c : Call) → Serves u → Suits (u .address) (u .«fram_len») (length message) c → c .byte ≡ fend
     → stepOf u (c .byte) (lentTo message c) .unit .receiver ≡ opened
 unfolding receiveOf
-a-served-FEND-opens-a-run u message c low suits ends =
-    the-receiver-is-the-line's u (c .byte) (lentTo message c) (a-call-that-suits-fits u message c low suits)
-    ∙ ap (λ (n : ℕ). receiveOf messageSize (u .receiver) n message .receiver) ends
+a-served-FEND-opens-a-run u message c serves suits ends =
+    the-receiver-is-the-line's u (c .byte) (lentTo message c) (a-call-that-suits-fits u message c serves suits)
+    ∙ ap (λ (n : ℕ). receiveOf (largestMessage (u .limit)) (u .receiver) n message .receiver) ends
 
 -- ---- what a sealed message comes to
 
@@ -188,7 +205,7 @@ module _ (head tail : List ℕ) (bytes : Bytes head) where
       ∙ eq-eqb (sumOf (take (length head) (head ++ (bytes16 (sumOf head) ++ tail)))) (word16At (head ++ (bytes16 (sumOf head) ++ tail)) (length head))
       (ap sumOf (take-append-seam head (bytes16 (sumOf head) ++ tail)) ∙ sym word)
 
-module _ (u : Unit) (w : World) (destination source control : ℕ) (field : List ℕ) (bytes : Bytes (destination ∷ source ∷ control ∷ field)) (short : length field ≤ longestData) where
+module _ (u : Unit) (w : World) (destination source control : ℕ) (field : List ℕ) (bytes : Bytes (destination ∷ source ∷ control ∷ field)) (short : length field ≤ u .limit) where
   abbrev head : List ℕ
   head = destination ∷ source ∷ control ∷ field
 
@@ -220,10 +237,10 @@ module _ (u : Unit) (w : World) (destination source control : ℕ) (field : List
       let long = sealed-length in
       le-ltb (length (sealed head)) shortestMessage (omega arith)
 
-  not-oversize : ltb messageSize (length (sealed head)) ≡ false
+  not-oversize : ltb (largestMessage (u .limit)) (length (sealed head)) ≡ false
   not-oversize =
       let long = sealed-length in
-      le-ltb messageSize (length (sealed head)) (omega arith)
+      le-ltb (largestMessage (u .limit)) (length (sealed head)) (omega arith)
 
   either-one : (b : Bool) → servedOf u (cond b (Command (length (sealed head))) (Quiet Elsewhere)) lying
       ≡ cond b (orderedOf u destination source control field lying) (outcome u Elsewhere lying)
@@ -231,7 +248,7 @@ module _ (u : Unit) (w : World) (destination source control : ℕ) (field : List
   either-one true = ap (λ (f : List ℕ). orderedOf u destination source control f lying) (field-size (drop (length (sealed head)) (w .message)))
   either-one false = refl
 
-  judged : servedOf u (runOf (u .address) (length (sealed head)) (lying .message)) lying ≡ addressedOf u destination source control field lying
+  judged : servedOf u (runOf (largestMessage (u .limit)) (u .address) (length (sealed head)) (lying .message)) lying ≡ addressedOf u destination source control field lying
   unfolding runOf sealed
   judged =
       let tail = drop (length (sealed head)) (w .message) in
@@ -239,7 +256,7 @@ module _ (u : Unit) (w : World) (destination source control : ℕ) (field : List
 
 -- ---- demand 2
 
-module _ (u : Unit) (message : List ℕ) (calls : List Call) (c : Call) (low : u .receiver .count ≤ largestCount) (all : AllSuit (u .address) (u .«fram_len») (length message) calls)
+module _ (u : Unit) (message : List ℕ) (calls : List Call) (c : Call) (serves : Serves u) (all : AllSuit (u .address) (u .«fram_len») (length message) calls)
     (last : Suits (u .address) (u .«fram_len») (length message) c) (ends : c .byte ≡ fend) where
   -- a FEND where nothing is open is only taken
   quiet : (w : World) → Idle (u .receiver) → comesTo (withReceiver u opened) (closedOf (u .receiver .place) (u .receiver .count)) w ≡ outcome (withReceiver u opened) Taken w
@@ -251,8 +268,8 @@ module _ (u : Unit) (message : List ℕ) (calls : List Call) (c : Call) (low : u
       → stepOf u (d .byte) (lentTo message d) ≡ outcome (withReceiver u opened) Taken (lentTo message d)
   unfolding receiveOf
   opening idle d suits e =
-      served u message d low suits
-      ∙ ap (λ (o : Reception). comesTo (withReceiver u (o .receiver)) (o .heard) (lentTo (o .message) d)) (ap (λ (n : ℕ). receiveOf messageSize (u .receiver) n message) e)
+      served u message d serves suits
+      ∙ ap (λ (o : Reception). comesTo (withReceiver u (o .receiver)) (o .heard) (lentTo (o .message) d)) (ap (λ (n : ℕ). receiveOf (largestMessage (u .limit)) (u .receiver) n message) e)
       ∙ quiet (lentTo message d) idle
 
   -- a body that comes to something after any FEND comes to the same with its FEND before it, where nothing is open
@@ -268,27 +285,36 @@ module _ (u : Unit) (message : List ℕ) (calls : List Call) (c : Call) (low : u
           ap (λ o. answering (o .answer) (fedOf (o .unit) (o .world .message) part c)) (opening idle d (suit .0) (ap (λ l. getD l 0 0) e))
           ∙ ap (answering Taken) (after part (suit .1) (ap (drop 1) e))
 
-  -- A message of more than 1,033 bytes, whatever it says, is dropped for its length. Its first 1,033 bytes stand in the message buffer.
-  module _ (m : List ℕ) (long : messageSize < length m) where
+  -- A message of more than limit + 5 bytes, whatever it says, is dropped for its length. Its first limit + 5 bytes stand in the message buffer.
+  module _ (m : List ℕ) (long : largestMessage (u .limit) < length m) where
+    abbrev most : ℕ
+    most = largestMessage (u .limit)
+
     abbrev droppedThere : Outcome
-    droppedThere = servedOf (withReceiver u opened) (dropped Oversize 2) (lentTo (take messageSize m ++ drop messageSize message) c)
+    droppedThere = servedOf (withReceiver u opened) (dropped Oversize 2) (lentTo (take most m ++ drop most message) c)
+
+    too-long : comesTo (withReceiver u opened) (heard.Message (most + 1)) (lentTo (take most m ++ drop most message) c) ≡ droppedThere
+    unfolding verdictOf
+    too-long =
+        ap (λ v. servedOf (withReceiver u opened) v (lentTo (take most m ++ drop most message) c))
+        (sym (an-oversize most (u .address) (most + 1) (take most m ++ drop most message) (omega arith) (omega arith)))
 
     pub a-packed-message-too-long-is-dropped : Idle (u .receiver) → bytesOf calls ≡ fend ∷ bodyOf m → fedOf u message calls c ≡ delivering (length calls) droppedThere
-    unfolding verdictOf runOf
     a-packed-message-too-long-is-dropped idle is =
         let unpacks = a-body-unpacks-to-its-message m in
-        let kept : keptOf messageSize (bodyOf m) ≡ take messageSize m = ap (λ (p : Unpacked). take messageSize (p .bytes)) unpacks in
-        let size : length (take messageSize m) ≡ messageSize = length-take-le messageSize m (omega arith) in
-        let counted : min (length m) (messageSize + 1) ≡ 1034 = omega arith in
-        let heard-so : heardOf messageSize (bodyOf m) ≡ heard.Message 1034 = sound-at-the-close messageSize (bodyOf m) m unpacks (omega arith) ∙ ap heard.Message counted in
-        let laid : keptOf messageSize (bodyOf m) ++ drop (length (keptOf messageSize (bodyOf m))) message ≡ take messageSize m ++ drop messageSize message
-        = ap (λ l. l ++ drop (length l) message) kept ∙ ap (λ (n : ℕ). take messageSize m ++ drop n message) size in
+        let kept : keptOf most (bodyOf m) ≡ take most m = ap (λ (p : Unpacked). take most (p .bytes)) unpacks in
+        let size : length (take most m) ≡ most = length-take-le most m (omega arith) in
+        let counted : min (length m) (most + 1) ≡ most + 1 = omega arith in
+        let heard-so : heardOf most (bodyOf m) ≡ heard.Message (most + 1) = sound-at-the-close most (bodyOf m) m unpacks (omega arith) ∙ ap heard.Message counted in
+        let laid : keptOf most (bodyOf m) ++ drop (length (keptOf most (bodyOf m))) message ≡ take most m ++ drop most message
+        = ap (λ l. l ++ drop (length l) message) kept ∙ ap (λ (n : ℕ). take most m ++ drop n message) size in
         with-its-FEND idle (bodyOf m) is droppedThere
-        (λ part suit body. any-run-is-judged-as-it-unpacks u message part c (bodyOf m) body ends suit last (a-body-has-no-FEND m)
-        ∙ ap₂ (λ h l. delivering (length part) (comesTo (withReceiver u opened) h (lentTo l c))) heard-so laid)
+        (λ part suit body. any-run-is-judged-as-it-unpacks u message part c (bodyOf m) (serves .1) body ends suit last (a-body-has-no-FEND m)
+        ∙ ap₂ (λ h l. delivering (length part) (comesTo (withReceiver u opened) h (lentTo l c))) heard-so laid
+        ∙ ap (delivering (length part)) too-long)
 
-  -- Any message, sound or not, of 5 to 1,033 bytes (of one byte or more, in fact).
-  module _ (m : List ℕ) (some : 0 < length m) (within : length m ≤ messageSize) where
+  -- Any message, sound or not, of 5 to limit + 5 bytes (of one byte or more, in fact).
+  module _ (m : List ℕ) (some : 0 < length m) (within : length m ≤ largestMessage (u .limit)) where
     abbrev judgedThere : Outcome
     judgedThere = comesTo (withReceiver u opened) (heard.Message (length m)) (lentTo (m ++ drop (length m) message) c)
 
@@ -298,12 +324,12 @@ module _ (u : Unit) (message : List ℕ) (calls : List Call) (c : Call) (low : u
     pub after-any-FEND-a-packed-message-is-judged : u .receiver ≡ opened → bytesOf calls ≡ bodyOf m → fedOf u message calls c ≡ delivering (length calls) judgedThere
     after-any-FEND-a-packed-message-is-judged e is =
         let same : withReceiver u opened ≡ u = ap (withReceiver u) (sym e) in
-        subst (λ v. fedOf v message calls c ≡ delivering (length calls) judgedThere) same (body-judged u message calls c (bodyOf m) is ends all last m refl some within)
+        subst (λ v. fedOf v message calls c ≡ delivering (length calls) judgedThere) same (body-judged u message calls c (bodyOf m) (serves .1) is ends all last m refl some within)
 
     -- The same with both its FENDs, to a unit that is fresh or has nothing open.
     pub a-packed-message-is-judged : Idle (u .receiver) → bytesOf calls ≡ fend ∷ bodyOf m → fedOf u message calls c ≡ delivering (length calls) judgedThere
     a-packed-message-is-judged idle is =
-        with-its-FEND idle (bodyOf m) is judgedThere (λ part suit body. body-judged u message part c (bodyOf m) body ends suit last m refl some within)
+        with-its-FEND idle (bodyOf m) is judgedThere (λ part suit body. body-judged u message part c (bodyOf m) (serves .1) body ends suit last m refl some within)
 
     -- And it stands at the start of the message buffer byte for byte, the rest of which is as it was.
     pub a-packed-message-stands-in-the-buffer : Idle (u .receiver) → bytesOf calls ≡ fend ∷ bodyOf m → fedOf u message calls c .last .world .message ≡ m ++ drop (length m) message
@@ -314,7 +340,7 @@ module _ (u : Unit) (message : List ℕ) (calls : List Call) (c : Call) (low : u
         (record { taken = refl; elsewhere = refl; dropped = λ answer which number four silent. refl; commanded = λ destination source control field short. refl })
         (heard.Message (length m))
 
-  module _ (destination source control : ℕ) (field : List ℕ) (bytes : Bytes (destination ∷ source ∷ control ∷ field)) (short : length field ≤ longestData) where
+  module _ (destination source control : ℕ) (field : List ℕ) (bytes : Bytes (destination ∷ source ∷ control ∷ field)) (short : length field ≤ u .limit) where
     abbrev sent : List ℕ
     sent = sealed (destination ∷ source ∷ control ∷ field)
 
@@ -354,40 +380,48 @@ module _ (u : Unit) (destination source control : ℕ) (field : List ℕ) (w : W
       simp polled (take-append-seam (packedOf (replyMessage 0 destination source control field)) (drop (length (packedOf (replyMessage 0 destination source control field))) (w .reply)))
   what-is-sent-is-the-packed-answer unfitted answers = absurd (answers refl)
 
--- an answer's message is never too long for a receiver
+-- an answer's message is never longer than the limit allows
 pub sealed-size : (a b c : ℕ) (l : List ℕ) → length (sealed (a ∷ b ∷ c ∷ l)) ≡ length l + 5
 unfolding sealed
 sealed-size a b c l = length-append (a ∷ b ∷ c ∷ l) (bytes16 (sumOf (a ∷ b ∷ c ∷ l))) ∙ (omega arith)
 
-legal : (destination source control : ℕ) (field : List ℕ) (o : Ending Held) → (o ≡ unfitted → ⊥) → length field ≤ longestData → Roomy longestData o
-    → (5 ≤ length (answerMessage destination source control field o)) × (length (answerMessage destination source control field o) ≤ messageSize)
+legal : (limit destination source control : ℕ) (field : List ℕ) (o : Ending Held) → (o ≡ unfitted → ⊥) → length field ≤ limit → Roomy limit o
+    → (5 ≤ length (answerMessage destination source control field o)) × (length (answerMessage destination source control field o) ≤ largestMessage limit)
 unfolding replyMessage
-legal destination source control field (done reply changed) answers short fits =
+legal limit destination source control field (done reply changed) answers short fits =
     let long = sealed-size source destination (replyControl 1 control) reply in
     (omega arith, omega arith)
-legal destination source control field refused answers short fits =
+legal limit destination source control field refused answers short fits =
     let long = sealed-size source destination (replyControl 0 control) field in
     (omega arith, omega arith)
-legal destination source control field unfitted answers short fits = absurd (answers refl)
+legal limit destination source control field unfitted answers short fits = absurd (answers refl)
 
--- Demand 2, the way back. The bytes sent in answer to any command with data of legal length, given to any receiver with room for a
--- message, are received as the message of the answer.
-module _ (u : Unit) (destination source control : ℕ) (field : List ℕ) (w : World) (polled : polls control ≡ true) (short : length field ≤ longestData) where
+-- Demand 2, the way back. A command with data of legal length is answered by a message of 5 to limit + 5 bytes; and the bytes sent, given
+-- to any receiver that takes messages of that length and has room for one, are received as that message.
+module _ (u : Unit) (limited : isLimit (u .limit) ≡ true) (destination source control : ℕ) (field : List ℕ) (w : World) (polled : polls control ≡ true)
+    (short : length field ≤ u .limit) where
   abbrev came : Ending Held
-  came = commandOf longestData firstOfFram (codeOf control) (w .diagnostics) (heldOf u w) field
+  came = commandOf (u .limit) firstOfFram (codeOf control) (w .diagnostics) (heldOf u w) field
 
   abbrev left : Outcome
   left = answered u destination source control field came w
 
-  pub what-is-sent-is-received-back : (came ≡ unfitted → ⊥) → (receiver : Receiver) (theirs : List ℕ) → messageSize ≤ length theirs
-      → feedOf messageSize receiver (take (sentOf (left .answer)) (left .world .reply)) theirs
+  pub no-answer-is-longer-than-the-limit-allows : (came ≡ unfitted → ⊥)
+      → (5 ≤ length (answerMessage destination source control field came)) × (length (answerMessage destination source control field came) ≤ largestMessage (u .limit))
+  no-answer-is-longer-than-the-limit-allows answers =
+      legal (u .limit) destination source control field came answers short
+      (every-reply-has-room (u .limit) (at-least-a-PING (u .limit) limited) firstOfFram (codeOf control) (w .diagnostics) (heldOf u w) field)
+
+  pub what-is-sent-is-received-back : (came ≡ unfitted → ⊥) → (largest : ℕ) (receiver : Receiver) (theirs : List ℕ) → largestMessage (u .limit) ≤ largest
+      → largestMessage (u .limit) ≤ length theirs
+      → feedOf largest receiver (take (sentOf (left .answer)) (left .world .reply)) theirs
       ≡ deliveredOf receiver (answerMessage destination source control field came) theirs
-  what-is-sent-is-received-back answers receiver theirs roomy =
-      let fits = legal destination source control field came answers short (every-reply-has-room longestData (omega arith) firstOfFram (codeOf control) (w .diagnostics) (heldOf u w) field) in
+  what-is-sent-is-received-back answers largest receiver theirs takes roomy =
+      let fits = no-answer-is-longer-than-the-limit-allows answers in
       let low = fits .0 in
       let high = fits .1 in
-      ap (λ l. feedOf messageSize receiver l theirs) (what-is-sent-is-the-packed-answer u destination source control field w polled came answers)
-      ∙ what-is-packed-is-received-back messageSize (answerMessage destination source control field came) theirs (omega arith) (omega arith) (omega arith) receiver
+      ap (λ l. feedOf largest receiver l theirs) (what-is-sent-is-the-packed-answer u destination source control field w polled came answers)
+      ∙ what-is-packed-is-received-back largest (answerMessage destination source control field came) theirs (omega arith) (omega arith) (omega arith) receiver
 
 -- Where poll is clear nothing is sent, and the reply buffer is as it was.
 pub nothing-is-sent-where-poll-is-clear : (u : Unit) (destination source control : ℕ) (field : List ℕ) (w : World) → polls control ≡ false → (o : Ending Held)
@@ -404,25 +438,28 @@ done-answers e = let z : _≡_ {A = ℕ} 0 1 = cc in absurd (omega arith)
 refused-answers : _≡_ {A = Ending Held} refused unfitted → ⊥
 refused-answers e = let z : _≡_ {A = ℕ} 0 1 = cc in absurd (omega arith)
 
-answered-fits : (u : Unit) (destination source control : ℕ) (field : List ℕ) (o : Ending Held) (w : World) → length field ≤ longestData → Roomy longestData o
-    → replySize ≤ length (w .reply) → sentOf (answered u destination source control field o w .answer) ≤ length (w .reply)
+answered-fits : (u : Unit) (destination source control : ℕ) (field : List ℕ) (o : Ending Held) (w : World) → isLimit (u .limit) ≡ true → length field ≤ u .limit
+    → Roomy (u .limit) o → replySize ≤ length (w .reply) → sentOf (answered u destination source control field o w .answer) ≤ length (w .reply)
 unfolding answered saidOf saying
-answered-fits u destination source control field (done reply changed) w short fits roomy =
-    let high = legal destination source control field (done reply changed) done-answers short fits .1 in
+answered-fits u destination source control field (done reply changed) w limited short fits roomy =
+    let most = no-longer-than-any (u .limit) limited in
+    let high = legal (u .limit) destination source control field (done reply changed) done-answers short fits .1 in
     let packed = the-room-is-enough-for-the-longest (replyMessage 1 destination source control reply) (omega arith) in
     either-way (λ (s : Said). sentOf (s .answer) ≤ length (w .reply)) (polls control) _ _ (λ _. omega arith) (λ _. omega arith)
-answered-fits u destination source control field refused w short fits roomy =
-    let high = legal destination source control field refused refused-answers short fits .1 in
+answered-fits u destination source control field refused w limited short fits roomy =
+    let most = no-longer-than-any (u .limit) limited in
+    let high = legal (u .limit) destination source control field refused refused-answers short fits .1 in
     let packed = the-room-is-enough-for-the-longest (replyMessage 0 destination source control field) (omega arith) in
     either-way (λ (s : Said). sentOf (s .answer) ≤ length (w .reply)) (polls control) _ _ (λ _. omega arith) (λ _. omega arith)
-answered-fits u destination source control field unfitted w short fits roomy = omega arith
+answered-fits u destination source control field unfitted w limited short fits roomy = omega arith
 
 pub what-is-sent-fits-the-reply-buffer : (u : Unit) (byte : ℕ) (w : World) → sentOf (stepOf u byte w .answer) ≤ length (w .reply)
 what-is-sent-fits-the-reply-buffer u byte w =
     of-any-call (λ (o : Outcome). sentOf (o .answer) ≤ length (w .reply)) u byte w
     (λ answer e. let z = high-sends answer (a-refused-step-has-its-number u (lengthsOf w) answer e) in omega arith)
     (λ e.
-    let got = receiveOf messageSize (u .receiver) byte (w .message) in
+    let limited = a-served-step-is-limited u (lengthsOf w) e in
+    let got = receiveOf (largestMessage (u .limit)) (u .receiver) byte (w .message) in
     let next = withReceiver u (got .receiver) in
     let lent = withMessage w (got .message) in
     record {
@@ -430,6 +467,6 @@ what-is-sent-fits-the-reply-buffer u byte w =
       elsewhere = omega arith;
       dropped = λ answer which number four silent. omega arith;
       commanded = λ destination source control field short.
-          answered-fits next destination source control field (commandOf longestData firstOfFram (codeOf control) (w .diagnostics) (heldOf next lent) field) lent short
-          (every-reply-has-room longestData (omega arith) firstOfFram (codeOf control) (w .diagnostics) (heldOf next lent) field) (a-served-step-fits u (lengthsOf w) e .reply-fits);
+          answered-fits next destination source control field (commandOf (u .limit) firstOfFram (codeOf control) (w .diagnostics) (heldOf next lent) field) lent limited short
+          (every-reply-has-room (u .limit) (at-least-a-PING (u .limit) limited) firstOfFram (codeOf control) (w .diagnostics) (heldOf next lent) field) (a-served-step-fits u (lengthsOf w) e .reply-fits);
     })

@@ -20,7 +20,7 @@ use Rattle.field.specs.Reading.{isWhole}
 use Rattle.blocks.specs.Fram.{kept, placeOf, storeOf}
 use Rattle.blocks.specs.declared.Found.the-variants.{At}
 use Rattle.carrying.specs.declared.Mode.the-variants.{Application}
-use Rattle.carrying.specs.Ending.{longestData, done}
+use Rattle.carrying.specs.Ending.{done}
 use Rattle.carrying.specs.Held.{Held, held, onEdac, onFram}
 use Rattle.carrying.proofs.Room.{either-way}
 use Rattle.fram_commands.specs.Poke.{pokeOf}
@@ -69,7 +69,7 @@ module _ (u : Unit) (message : List ℕ) (source control : ℕ) (field : List �
       ∙ ap (λ o. answered (withReceiver u opened) (u .address) source control field o laid) came))
       (answers-so reply after)
 
--- A POKE of 1 to 1,024 bytes inside FRAM is done, and FRAM then has them where its address says, and all else as it was.
+-- A POKE of one byte or more, as many as the limit allows (1,024 at 1,028), inside FRAM is done, and FRAM then has them where its address says, and all else as it was.
 pub a-POKE-inside-FRAM-is-done : (u : Unit) (message : List ℕ) (source control address : ℕ) (bytes : List ℕ) (calls : List Call) (c : Call)
     → Sends u message source control (bytes32 address ++ bytes) calls c → codeOf control ≡ 0x03 → 1 ≤ length bytes → address < 4294967296
     → firstOfFram ≤ address → address + length bytes ≤ firstOfFram + length (c .lent .fram)
@@ -83,9 +83,9 @@ a-POKE-inside-FRAM-is-done u message source control address bytes calls c sends 
     = ap₂ (λ (a n : ℕ). placeOf firstOfFram (length (c .lent .fram)) a n) (four-bytes address small) size
     ∙ simp (le-leb firstOfFram address starts, le-leb (address + length bytes) (firstOfFram + length (c .lent .fram)) ends) in
     let so = a-command-that-is-done-answers-so u message source control field calls c sends field (held (u .mode) (c .lent .edac) (storeOf memory (address - firstOfFram) bytes))
-    (in-either-mode longestData firstOfFram (codeOf control) (c .lent .diagnostics) (heldOf u (c .lent)) field 0x03
-    (onFram (heldOf u (c .lent)) (pokeOf longestData firstOfFram memory field)) code refl
-    ∙ ap (onFram (heldOf u (c .lent))) (poke-inside longestData firstOfFram memory field (omega arith) (sends .short) (address - firstOfFram) found)) in
+    (in-either-mode (u .limit) firstOfFram (codeOf control) (c .lent .diagnostics) (heldOf u (c .lent)) field 0x03
+    (onFram (heldOf u (c .lent)) (pokeOf (u .limit) firstOfFram memory field)) code refl
+    ∙ ap (onFram (heldOf u (c .lent))) (poke-inside (u .limit) firstOfFram memory field (omega arith) (sends .short) (address - firstOfFram) found)) in
     (so .0, so .2)
 
 -- A WRITE EDAC of one byte or more, in application mode, of a range that ends at or below 1,536, whether it meets read-only bytes or not:
@@ -103,9 +103,9 @@ module _ (u : Unit) (message : List ℕ) (source control address : ℕ) (bytes :
       let size : length order - 2 ≡ length bytes = omega arith in
       let there : address ≡ word16At order 0 = sym (two-bytes address (omega arith)) in
       let inside : insideEdac address (length order - 2) ≡ true = ap (insideEdac address) size ∙ le-leb (address + length bytes) edacSize ends in
-      in-application longestData firstOfFram (codeOf control) (c .lent .diagnostics) (heldOf u (c .lent)) order 0x0A
-      (onEdac (heldOf u (c .lent)) (writeEdacOf longestData (c .lent .edac) order)) code mode refl
-      ∙ ap (onEdac (heldOf u (c .lent))) (edac-write-inside longestData (c .lent .edac) order (omega arith) (sends .short) address there inside)
+      in-application (u .limit) firstOfFram (codeOf control) (c .lent .diagnostics) (heldOf u (c .lent)) order 0x0A
+      (onEdac (heldOf u (c .lent)) (writeEdacOf (u .limit) (c .lent .edac) order)) code mode refl
+      ∙ ap (onEdac (heldOf u (c .lent))) (edac-write-inside (u .limit) (c .lent .edac) order (omega arith) (sends .short) address there inside)
       ∙ ap (λ (n : ℕ). done (bytes16 address ++ stretch address n after) (held (u .mode) after (kept (c .lent .fram) (c .lent .sums)))) size
 
   left : (numberOf (leftBy u message calls c .answer) ≡ doneAnswer control) × (leftBy u message calls c .world .edac ≡ after)
@@ -136,8 +136,8 @@ module _ (u : Unit) (message : List ℕ) (source control : ℕ) (list : List ℕ
   files-came : cameTo u c control list ≡ done (filesShown filed (filesOf (listed list))) (held (u .mode) filed (kept (c .lent .fram) (c .lent .sums)))
   files-came =
       a-WRITE-FILE-comes-to u c control list code mode
-      ∙ ap (onEdac (heldOf u (c .lent))) (a-fit-list-is-written longestData (c .lent .edac) list
-      (so-it-is-fit longestData list (record { least = omega arith; most = omega arith; some = some; short = sends .short; whole = whole })))
+      ∙ ap (onEdac (heldOf u (c .lent))) (a-fit-list-is-written (u .limit) (c .lent .edac) list
+      (so-it-is-fit (u .limit) list (record { limited = sends .serves .1; some = some; short = sends .short; whole = whole })))
 
   files-left : (numberOf (leftBy u message calls c .answer) ≡ doneAnswer control) × (leftBy u message calls c .world .edac ≡ filed)
       × (leftBy u message calls c .world .fram ≡ c .lent .fram)

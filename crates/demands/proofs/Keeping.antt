@@ -5,13 +5,12 @@ use Prim.Native.Nat.{ℕ, _-_}
 use native.Mathlib.Omega.{arith}
 use lib.Dec.{eqb, ltb}
 use lib.ListN.{length, drop}
-use Rattle.line.specs.Packing.{messageSize}
 use Rattle.line.specs.Receiver.{receiveOf}
 use Rattle.field.specs.Fields.{word16At}
 use Rattle.memory.specs.Edac.{edacSize, insideEdac}
 use Rattle.read_only.specs.ReadOnly.{KeepsReadOnly}
 use Rattle.read_only.proofs.Keeping.{kept-at-first, also-kept, a-write-keeps-read-only-bytes}
-use Rattle.carrying.specs.Ending.{longestData, Ending, done, refused, unfitted}
+use Rattle.carrying.specs.Ending.{Ending, done, refused, unfitted}
 use Rattle.carrying.specs.Held.{Held, held, inside, reading, onEdac}
 use Rattle.carrying.proofs.Room.{either-way}
 use Rattle.fram_commands.specs.Peek.{peekOf}
@@ -32,7 +31,7 @@ use Rattle.judging.specs.declared.Unit.{Unit}
 use Rattle.judging.specs.declared.fitting.Fit.{Fit}
 use Rattle.judging.specs.declared.fitting.Fit.the-variants.{Fits, Unfit}
 use Rattle.judging.specs.Fitting.{setUpFit}
-use Rattle.judging.specs.Judging.{withReceiver}
+use Rattle.judging.specs.Judging.{largestMessage, withReceiver}
 use Rattle.replying.specs.Replies.{codeOf}
 use Rattle.unit.specs.World.{World, lengthsOf, Outcome, withMessage, heldOf}
 use Rattle.unit.specs.Steps.{setUpAs, setUpOf, firstOfFram, answered, stepOf}
@@ -113,7 +112,7 @@ pub a-step-keeps-read-only-bytes : (u : Unit) (byte : ℕ) (w : World) → Keeps
 a-step-keeps-read-only-bytes u byte w =
     of-any-call (λ (o : Outcome). KeepsReadOnly (w .edac) (o .world .edac)) u byte w (λ answer e. kept-at-first (w .edac))
     (λ _.
-    let got = receiveOf messageSize (u .receiver) byte (w .message) in
+    let got = receiveOf (largestMessage (u .limit)) (u .receiver) byte (w .message) in
     let next = withReceiver u (got .receiver) in
     let lent = withMessage w (got .message) in
     record {
@@ -121,8 +120,8 @@ a-step-keeps-read-only-bytes u byte w =
       elsewhere = kept-at-first (w .edac);
       dropped = λ answer which number four silent. kept-at-first (w .edac);
       commanded = λ destination source control field short.
-          answered-keeps next destination source control field (commandOf longestData firstOfFram (codeOf control) (w .diagnostics) (heldOf next lent) field) lent
-          (command-keeps longestData firstOfFram (codeOf control) (w .diagnostics) (heldOf next lent) field);
+          answered-keeps next destination source control field (commandOf (u .limit) firstOfFram (codeOf control) (w .diagnostics) (heldOf next lent) field) lent
+          (command-keeps (u .limit) firstOfFram (codeOf control) (w .diagnostics) (heldOf next lent) field);
     })
 
 -- storing a list, fit or not, in memory of any length
@@ -134,11 +133,11 @@ storing-keeps-read-only-bytes limit edac list =
     (λ _. kept-at-first edac)
 
 -- a set-up leaves EDAC memory as it is
-pub a-set-up-keeps-edac : (address : ℕ) (w : World) → setUpOf address w .world .edac ≡ w .edac
+pub a-set-up-keeps-edac : (address limit : ℕ) (w : World) → setUpOf address limit w .world .edac ≡ w .edac
 unfolding setUpOf
-a-set-up-keeps-edac address w = apart (setUpFit address (lengthsOf w))
+a-set-up-keeps-edac address limit w = apart (setUpFit address limit (lengthsOf w))
   where
-    apart : (f : Fit) → setUpAs f address w .world .edac ≡ w .edac
+    apart : (f : Fit) → setUpAs f address limit w .world .edac ≡ w .edac
     apart Fits = refl
     apart (Unfit answer) = refl
 
@@ -149,9 +148,9 @@ a-set-up-keeps-edac address w = apart (setUpFit address (lengthsOf w))
 -- long as it was, and each of its read-only bytes has the value that it had.
 pub no-bytes-change-a-read-only-byte : (edac : List ℕ) (calls : List EdacCall) → KeepsReadOnly edac (edacLeft edac calls)
 no-bytes-change-a-read-only-byte edac [] = kept-at-first edac
-no-bytes-change-a-read-only-byte edac (setting-up address w ∷ calls) =
-    also-kept (subst (KeepsReadOnly edac) (sym (a-set-up-keeps-edac address (onThis edac w))) (kept-at-first edac))
-    (no-bytes-change-a-read-only-byte (setUpOf address (onThis edac w) .world .edac) calls)
+no-bytes-change-a-read-only-byte edac (setting-up address limit w ∷ calls) =
+    also-kept (subst (KeepsReadOnly edac) (sym (a-set-up-keeps-edac address limit (onThis edac w))) (kept-at-first edac))
+    (no-bytes-change-a-read-only-byte (setUpOf address limit (onThis edac w) .world .edac) calls)
 no-bytes-change-a-read-only-byte edac (stepping u c ∷ calls) =
     also-kept (a-step-keeps-read-only-bytes u (c .byte) (onThis edac (c .lent)))
     (no-bytes-change-a-read-only-byte (stepOf u (c .byte) (onThis edac (c .lent)) .world .edac) calls)

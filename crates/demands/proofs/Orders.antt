@@ -10,7 +10,7 @@ use Rattle.line.specs.Packing.{packedOf}
 use Rattle.line.specs.Receiver.{opened}
 use Rattle.memory.specs.Edac.{edacSize}
 use Rattle.carrying.specs.declared.Mode.the-variants.{Application}
-use Rattle.carrying.specs.Ending.{longestData, Ending, done, refused, unfitted}
+use Rattle.carrying.specs.Ending.{Ending, done, refused, unfitted}
 use Rattle.carrying.specs.Held.{Held, onEdac}
 use Rattle.carrying.proofs.Room.{either-way}
 use Rattle.file_commands.specs.WriteFile.{writeFileOf}
@@ -38,10 +38,10 @@ done-is-no-fault e = let z : _≡_ {A = ℕ} 0 1 = cc in absurd (omega arith)
 
 -- what a WRITE FILE comes to in application mode
 pub a-WRITE-FILE-comes-to : (u : Unit) (c : Call) (control : ℕ) (list : List ℕ) → codeOf control ≡ 0x08 → u .mode ≡ Application
-    → cameTo u c control list ≡ onEdac (heldOf u (c .lent)) (writeFileOf longestData (c .lent .edac) list)
+    → cameTo u c control list ≡ onEdac (heldOf u (c .lent)) (writeFileOf (u .limit) (c .lent .edac) list)
 a-WRITE-FILE-comes-to u c control list code mode =
-    in-application longestData firstOfFram (codeOf control) (c .lent .diagnostics) (heldOf u (c .lent)) list 0x08
-    (onEdac (heldOf u (c .lent)) (writeFileOf longestData (c .lent .edac) list)) code mode refl
+    in-application (u .limit) firstOfFram (codeOf control) (c .lent .diagnostics) (heldOf u (c .lent)) list 0x08
+    (onEdac (heldOf u (c .lent)) (writeFileOf (u .limit) (c .lent .edac) list)) code mode refl
 
 -- what is known of a command that answered 1 or 2
 pub record WasDone (o : Outcome) (came : Ending Held) : Type 0 where
@@ -59,7 +59,7 @@ module _ (u : Unit) (message : List ℕ) (source control : ℕ) (field : List �
   pub a-sent-command-is-carried-out : fedOf u message calls c
       ≡ delivering (length calls) (answered (withReceiver u opened) (u .address) source control field (cameTo u c control field) laid)
   a-sent-command-is-carried-out =
-      a-packed-command-is-carried-out u message calls c (sends .low) (sends .suiting) (sends .suits) (sends .ends) (u .address) source control field (sends .bytes) (sends .short)
+      a-packed-command-is-carried-out u message calls c (sends .serves) (sends .suiting) (sends .suits) (sends .ends) (u .address) source control field (sends .bytes) (sends .short)
       (sends .idle) (sends .packed)
       ∙ ap (λ t. delivering (length calls) (cond t (orderedOf (withReceiver u opened) (u .address) source control field laid) (outcome (withReceiver u opened) Elsewhere laid)))
       (eq-eqb (u .address) (u .address) refl)
@@ -75,7 +75,7 @@ module _ (u : Unit) (message : List ℕ) (source control : ℕ) (field : List �
       ∙ what-is-sent-is-the-packed-answer (withReceiver u opened) (u .address) source control field laid polled (done reply after) done-is-no-fault
 
   pub edac-is-whole : length (c .lent .edac) ≡ edacSize
-  edac-is-whole = a-served-step-fits u (lengthsOf (lentTo message c)) (a-call-that-suits-fits u message c (sends .low) (sends .suits)) .edac-fits
+  edac-is-whole = a-served-step-fits u (lengthsOf (lentTo message c)) (a-call-that-suits-fits u message c (sends .serves) (sends .suits)) .edac-fits
 
   -- an answer of 1 or 2 is that of a command that is done
   answered-so : (o : Ending Held) → numberOf (answered (withReceiver u opened) (u .address) source control field o laid .answer) ≤ 2

@@ -16,9 +16,10 @@ use Rattle.memory.specs.Edac.{edacSize}
 use Rattle.blocks.specs.Fram.{kept}
 use Rattle.carrying.specs.declared.Mode.{Mode}
 use Rattle.carrying.specs.declared.Mode.the-variants.{Bootloader, Application}
-use Rattle.carrying.specs.Ending.{longestData, Ending, done, refused, unfitted}
+use Rattle.carrying.specs.Ending.{Ending, done, refused, unfitted}
 use Rattle.carrying.specs.Held.{Held, held, inside, reading, onEdac, onFram}
 use Rattle.carrying.specs.Storing.{withData, shownAfter}
+use Rattle.carrying.proofs.Limits.{within-both-ends}
 use Rattle.carrying.proofs.Storing.{shown-elsewhere}
 use Rattle.fram_commands.specs.Peek.{peekOf}
 use Rattle.fram_commands.specs.Poke.{pokeOf}
@@ -87,22 +88,22 @@ module _ (u : Unit) (message : List ℕ) (source control address : ℕ) (bytes :
   known = a-command-answered-so-was-done u message source control (bytes32 address ++ bytes) calls c sends was-done
 
   abbrev poked : OnThePart (λ memory. held (u .mode) (c .lent .edac) memory)
-      (pokeOf longestData firstOfFram (kept (c .lent .fram) (c .lent .sums)) (bytes32 address ++ bytes)) (known .reply) (known .after)
+      (pokeOf (u .limit) firstOfFram (kept (c .lent .fram) (c .lent .sums)) (bytes32 address ++ bytes)) (known .reply) (known .after)
   poked =
       on-the-part (λ memory. held (u .mode) (c .lent .edac) memory)
-      (pokeOf longestData firstOfFram (kept (c .lent .fram) (c .lent .sums)) (bytes32 address ++ bytes)) (known .reply) (known .after)
-      (sym (in-either-mode longestData firstOfFram (codeOf control) (c .lent .diagnostics) (heldOf u (c .lent)) (bytes32 address ++ bytes) 0x03
-      (onFram (heldOf u (c .lent)) (pokeOf longestData firstOfFram (kept (c .lent .fram) (c .lent .sums)) (bytes32 address ++ bytes))) pokes refl)
+      (pokeOf (u .limit) firstOfFram (kept (c .lent .fram) (c .lent .sums)) (bytes32 address ++ bytes)) (known .reply) (known .after)
+      (sym (in-either-mode (u .limit) firstOfFram (codeOf control) (c .lent .diagnostics) (heldOf u (c .lent)) (bytes32 address ++ bytes) 0x03
+      (onFram (heldOf u (c .lent)) (pokeOf (u .limit) firstOfFram (kept (c .lent .fram) (c .lent .sums)) (bytes32 address ++ bytes))) pokes refl)
       ∙ known .is)
 
   fram-then : d .lent .fram ≡ poked .part .fram
   fram-then = its-fram ∙ known .fram ∙ ap (λ (h : Held). h .memory .fram) (sym (poked .whole))
 
   peeks : (control′ : ℕ) → codeOf control′ ≡ 0x02 → (e : Call) (field : List ℕ)
-      → cameTo v e control′ field ≡ reading (heldOf v (e .lent)) (peekOf longestData firstOfFram (e .lent .fram) field)
+      → cameTo v e control′ field ≡ reading (heldOf v (e .lent)) (peekOf (v .limit) firstOfFram (e .lent .fram) field)
   peeks control′ code e field =
-      in-either-mode longestData firstOfFram (codeOf control′) (e .lent .diagnostics) (heldOf v (e .lent)) field 0x02
-      (reading (heldOf v (e .lent)) (peekOf longestData firstOfFram (e .lent .fram) field)) code refl
+      in-either-mode (v .limit) firstOfFram (codeOf control′) (e .lent .diagnostics) (heldOf v (e .lent)) field 0x02
+      (reading (heldOf v (e .lent)) (peekOf (v .limit) firstOfFram (e .lent .fram) field)) code refl
 
   -- Any PEEK comes to what it came to with FRAM as it was before the POKE, with the bytes poked where its range meets theirs.
   pub a-PEEK-after-a-POKE : address < 4294967296 → (control′ : ℕ) → codeOf control′ ≡ 0x02 → (field : List ℕ)
@@ -110,12 +111,12 @@ module _ (u : Unit) (message : List ℕ) (source control address : ℕ) (bytes :
       ≡ showing (heldOf v (d .lent)) (shownAfter 4 address bytes (word32At field 0)) (cameTo v (withFram d (c .lent .fram)) control′ field)
   a-PEEK-after-a-POKE small control′ code field =
       peeks control′ code d field
-      ∙ ap (λ l. reading (heldOf v (d .lent)) (peekOf longestData firstOfFram l field)) fram-then
+      ∙ ap (λ l. reading (heldOf v (d .lent)) (peekOf (v .limit) firstOfFram l field)) fram-then
       ∙ ap (reading (heldOf v (d .lent)))
-      (fram.a-PEEK-after-a-POKE longestData firstOfFram (kept (c .lent .fram) (c .lent .sums)) (bytes32 address ++ bytes) (known .reply) (poked .part) (poked .is) longestData field
-      ∙ ap (λ (a : ℕ). withData (shownAfter 4 a bytes (word32At field 0)) (peekOf longestData firstOfFram (c .lent .fram) field)) (four-bytes address small))
+      (fram.a-PEEK-after-a-POKE (u .limit) firstOfFram (kept (c .lent .fram) (c .lent .sums)) (bytes32 address ++ bytes) (known .reply) (poked .part) (poked .is) (v .limit) field
+      ∙ ap (λ (a : ℕ). withData (shownAfter 4 a bytes (word32At field 0)) (peekOf (v .limit) firstOfFram (c .lent .fram) field)) (four-bytes address small))
       ∙ read-so (heldOf v (d .lent)) (heldOf v (withFram d (c .lent .fram) .lent)) (shownAfter 4 address bytes (word32At field 0))
-      (peekOf longestData firstOfFram (c .lent .fram) field)
+      (peekOf (v .limit) firstOfFram (c .lent .fram) field)
       ∙ ap (showing (heldOf v (d .lent)) (shownAfter 4 address bytes (word32At field 0))) (sym (peeks control′ code (withFram d (c .lent .fram)) field))
 
   -- A PEEK whose range does not meet theirs shows what stood there.
@@ -128,24 +129,24 @@ module _ (u : Unit) (message : List ℕ) (source control address : ℕ) (bytes :
       ∙ ap (λ l. done l (heldOf v (d .lent))) (shown-elsewhere 4 address bytes (word32At field 0) reply apart)
 
   few : length bytes < 65536
-  few = omega (arith, sends .short)
+  few = omega (arith, sends .short, within-both-ends (u .limit) (sends .serves .1) .1)
 
-  -- A PEEK of the same range is done, and shows the bytes poked.
-  pub what-was-poked-is-peeked : (control′ : ℕ) → codeOf control′ ≡ 0x02
+  -- A PEEK of the same range, where its reply has room (as it has where the limit is the same), is done, and shows the bytes poked.
+  pub what-was-poked-is-peeked : 4 + length bytes ≤ v .limit → (control′ : ℕ) → codeOf control′ ≡ 0x02
       → cameTo v d control′ (bytes32 address ++ bytes16 (length bytes)) ≡ done (bytes32 address ++ bytes) (heldOf v (d .lent))
-  what-was-poked-is-peeked control′ code =
+  what-was-poked-is-peeked roomy control′ code =
       peeks control′ code d (bytes32 address ++ bytes16 (length bytes))
-      ∙ ap (λ l. reading (heldOf v (d .lent)) (peekOf longestData firstOfFram l (bytes32 address ++ bytes16 (length bytes)))) fram-then
+      ∙ ap (λ l. reading (heldOf v (d .lent)) (peekOf (v .limit) firstOfFram l (bytes32 address ++ bytes16 (length bytes)))) fram-then
       ∙ ap (reading (heldOf v (d .lent)))
-      (fram.what-was-poked-is-peeked longestData firstOfFram (kept (c .lent .fram) (c .lent .sums)) address bytes (known .reply) (poked .part) (poked .is) few)
+      (fram.what-was-poked-is-peeked (u .limit) firstOfFram (kept (c .lent .fram) (c .lent .sums)) address bytes (known .reply) (poked .part) (poked .is) few (v .limit) roomy)
 
   -- And from bytes on the line to bytes on the line: such a PEEK, sent with poll set, is answered by the packed reply with those bytes.
-  pub what-was-poked-is-sent : (message′ : List ℕ) (source′ control′ : ℕ) (calls′ : List Call)
+  pub what-was-poked-is-sent : 4 + length bytes ≤ v .limit → (message′ : List ℕ) (source′ control′ : ℕ) (calls′ : List Call)
       → Sends v message′ source′ control′ (bytes32 address ++ bytes16 (length bytes)) calls′ d → codeOf control′ ≡ 0x02 → polls control′ ≡ true
       → sentBy (leftBy v message′ calls′ d) ≡ packedOf (replyMessage 1 (v .address) source′ control′ (bytes32 address ++ bytes))
-  what-was-poked-is-sent message′ source′ control′ calls′ asks code polled =
+  what-was-poked-is-sent roomy message′ source′ control′ calls′ asks code polled =
       a-command-that-is-done-sends-its-data v message′ source′ control′ (bytes32 address ++ bytes16 (length bytes)) calls′ d asks polled (bytes32 address ++ bytes) (heldOf v (d .lent))
-      (what-was-poked-is-peeked control′ code)
+      (what-was-poked-is-peeked roomy control′ code)
 
 -- ---- WRITE EDAC, READ EDAC and GATHER
 
@@ -159,7 +160,7 @@ wrote-so : (u : Unit) (message : List ℕ) (source control : ℕ) (field : List 
     → (u .mode ≡ Application → cameTo u c control field ≡ onEdac (heldOf u (c .lent)) writes) → Wrote writes (leftBy u message calls c .world .edac)
 wrote-so u message source control field calls c sends was-done above writes row =
     let known = a-command-answered-so-was-done u message source control field calls c sends was-done in
-    let mode = was-in-application longestData firstOfFram (codeOf control) (c .lent .diagnostics) (heldOf u (c .lent)) field (known .reply) (known .after) above (known .is) in
+    let mode = was-in-application (u .limit) firstOfFram (codeOf control) (c .lent .diagnostics) (heldOf u (c .lent)) field (known .reply) (known .after) above (known .is) in
     let there = on-the-part (λ l. held (u .mode) l (kept (c .lent .fram) (c .lent .sums))) writes (known .reply) (known .after) (sym (row mode) ∙ known .is) in
     record { reply = known .reply; is = there .is ∙ ap (λ l. done (known .reply) l) (ap (λ (h : Held). h .edac) (there .whole) ∙ sym (known .edac)) }
 
@@ -175,26 +176,26 @@ module _ (u : Unit) (message : List ℕ) (source control address : ℕ) (bytes :
   abbrev left : List ℕ
   left = leftBy u message calls c .world .edac
 
-  abbrev wrote : Wrote (writeEdacOf longestData (c .lent .edac) field) left
+  abbrev wrote : Wrote (writeEdacOf (u .limit) (c .lent .edac) field) left
   wrote =
-      wrote-so u message source control field calls c sends was-done (omega (arith, code)) (writeEdacOf longestData (c .lent .edac) field)
-      (λ application. in-application longestData firstOfFram (codeOf control) (c .lent .diagnostics) (heldOf u (c .lent)) field 0x0A
-      (onEdac (heldOf u (c .lent)) (writeEdacOf longestData (c .lent .edac) field)) code application refl)
+      wrote-so u message source control field calls c sends was-done (omega (arith, code)) (writeEdacOf (u .limit) (c .lent .edac) field)
+      (λ application. in-application (u .limit) firstOfFram (codeOf control) (c .lent .diagnostics) (heldOf u (c .lent)) field 0x0A
+      (onEdac (heldOf u (c .lent)) (writeEdacOf (u .limit) (c .lent .edac) field)) code application refl)
 
   whole : length (c .lent .edac) ≡ edacSize
   whole = edac-is-whole u message source control field calls c sends
 
   reads : (control′ : ℕ) → codeOf control′ ≡ 0x09 → (e : Call) (asked : List ℕ)
-      → cameTo v e control′ asked ≡ reading (heldOf v (e .lent)) (readEdacOf longestData (e .lent .edac) asked)
+      → cameTo v e control′ asked ≡ reading (heldOf v (e .lent)) (readEdacOf (v .limit) (e .lent .edac) asked)
   reads control′ is e asked =
-      in-application longestData firstOfFram (codeOf control′) (e .lent .diagnostics) (heldOf v (e .lent)) asked 0x09
-      (reading (heldOf v (e .lent)) (readEdacOf longestData (e .lent .edac) asked)) is mode refl
+      in-application (v .limit) firstOfFram (codeOf control′) (e .lent .diagnostics) (heldOf v (e .lent)) asked 0x09
+      (reading (heldOf v (e .lent)) (readEdacOf (v .limit) (e .lent .edac) asked)) is mode refl
 
   gathers : (control′ : ℕ) → codeOf control′ ≡ 0x0B → (e : Call) (asked : List ℕ)
-      → cameTo v e control′ asked ≡ reading (heldOf v (e .lent)) (gatherOf longestData (e .lent .edac) asked)
+      → cameTo v e control′ asked ≡ reading (heldOf v (e .lent)) (gatherOf (v .limit) (e .lent .edac) asked)
   gathers control′ is e asked =
-      in-application longestData firstOfFram (codeOf control′) (e .lent .diagnostics) (heldOf v (e .lent)) asked 0x0B
-      (reading (heldOf v (e .lent)) (gatherOf longestData (e .lent .edac) asked)) is mode refl
+      in-application (v .limit) firstOfFram (codeOf control′) (e .lent .diagnostics) (heldOf v (e .lent)) asked 0x0B
+      (reading (heldOf v (e .lent)) (gatherOf (v .limit) (e .lent .edac) asked)) is mode refl
 
   -- Any READ EDAC comes to what it came to before the WRITE EDAC, with the writable bytes that were written where its range meets theirs.
   pub a-READ-EDAC-after-a-WRITE-EDAC : address < 65536 → (control′ : ℕ) → codeOf control′ ≡ 0x09 → (asked : List ℕ)
@@ -202,11 +203,11 @@ module _ (u : Unit) (message : List ℕ) (source control address : ℕ) (bytes :
       ≡ showing (heldOf v (d .lent)) (edacAfter address bytes (word16At asked 0)) (cameTo v (withEdac d (c .lent .edac)) control′ asked)
   a-READ-EDAC-after-a-WRITE-EDAC small control′ is asked =
       reads control′ is d asked
-      ∙ ap (λ l. reading (heldOf v (d .lent)) (readEdacOf longestData l asked)) its-edac
+      ∙ ap (λ l. reading (heldOf v (d .lent)) (readEdacOf (v .limit) l asked)) its-edac
       ∙ ap (reading (heldOf v (d .lent)))
-      (edac.a-READ-EDAC-after-a-WRITE-EDAC longestData (c .lent .edac) field (wrote .reply) left whole (wrote .is) longestData asked
-      ∙ ap (λ (a : ℕ). withData (edacAfter a bytes (word16At asked 0)) (readEdacOf longestData (c .lent .edac) asked)) (two-bytes address small))
-      ∙ read-so (heldOf v (d .lent)) (heldOf v (withEdac d (c .lent .edac) .lent)) (edacAfter address bytes (word16At asked 0)) (readEdacOf longestData (c .lent .edac) asked)
+      (edac.a-READ-EDAC-after-a-WRITE-EDAC (u .limit) (c .lent .edac) field (wrote .reply) left whole (wrote .is) (v .limit) asked
+      ∙ ap (λ (a : ℕ). withData (edacAfter a bytes (word16At asked 0)) (readEdacOf (v .limit) (c .lent .edac) asked)) (two-bytes address small))
+      ∙ read-so (heldOf v (d .lent)) (heldOf v (withEdac d (c .lent .edac) .lent)) (edacAfter address bytes (word16At asked 0)) (readEdacOf (v .limit) (c .lent .edac) asked)
       ∙ ap (showing (heldOf v (d .lent)) (edacAfter address bytes (word16At asked 0))) (sym (reads control′ is (withEdac d (c .lent .edac)) asked))
 
   -- A READ EDAC whose range does not meet theirs shows what stood there.
@@ -224,11 +225,11 @@ module _ (u : Unit) (message : List ℕ) (source control address : ℕ) (bytes :
       ≡ showing (heldOf v (d .lent)) (λ _. rangesAfter address bytes (c .lent .edac) (ranges asked)) (cameTo v (withEdac d (c .lent .edac)) control′ asked)
   a-GATHER-after-a-WRITE-EDAC small control′ is asked =
       gathers control′ is d asked
-      ∙ ap (λ l. reading (heldOf v (d .lent)) (gatherOf longestData l asked)) its-edac
+      ∙ ap (λ l. reading (heldOf v (d .lent)) (gatherOf (v .limit) l asked)) its-edac
       ∙ ap (reading (heldOf v (d .lent)))
-      (edac.a-GATHER-after-a-WRITE-EDAC longestData (c .lent .edac) field (wrote .reply) left whole (wrote .is) longestData asked
-      ∙ ap (λ (a : ℕ). withData (λ _. rangesAfter a bytes (c .lent .edac) (ranges asked)) (gatherOf longestData (c .lent .edac) asked)) (two-bytes address small))
-      ∙ read-so (heldOf v (d .lent)) (heldOf v (withEdac d (c .lent .edac) .lent)) (λ _. rangesAfter address bytes (c .lent .edac) (ranges asked)) (gatherOf longestData (c .lent .edac) asked)
+      (edac.a-GATHER-after-a-WRITE-EDAC (u .limit) (c .lent .edac) field (wrote .reply) left whole (wrote .is) (v .limit) asked
+      ∙ ap (λ (a : ℕ). withData (λ _. rangesAfter a bytes (c .lent .edac) (ranges asked)) (gatherOf (v .limit) (c .lent .edac) asked)) (two-bytes address small))
+      ∙ read-so (heldOf v (d .lent)) (heldOf v (withEdac d (c .lent .edac) .lent)) (λ _. rangesAfter address bytes (c .lent .edac) (ranges asked)) (gatherOf (v .limit) (c .lent .edac) asked)
       ∙ ap (showing (heldOf v (d .lent)) (λ _. rangesAfter address bytes (c .lent .edac) (ranges asked))) (sym (gathers control′ is (withEdac d (c .lent .edac)) asked))
 
   -- What then stands there: byte for byte what stood there, where it is read-only, and elsewhere what was written.
@@ -237,25 +238,25 @@ module _ (u : Unit) (message : List ℕ) (source control address : ℕ) (bytes :
 
   answered-with : address < 65536 → wrote .reply ≡ bytes16 address ++ now-there
   answered-with small =
-      edac.what-a-WRITE-EDAC-answers longestData (c .lent .edac) address bytes (wrote .reply) left whole (wrote .is)
-      ∙ ap (λ l. bytes16 address ++ l) (edac.what-memory-then-holds longestData (c .lent .edac) address bytes (wrote .reply) left whole (wrote .is))
+      edac.what-a-WRITE-EDAC-answers (u .limit) (c .lent .edac) address bytes (wrote .reply) left whole (wrote .is)
+      ∙ ap (λ l. bytes16 address ++ l) (edac.what-memory-then-holds (u .limit) (c .lent .edac) address bytes (wrote .reply) left whole (wrote .is))
       ∙ ap (λ (a : ℕ). bytes16 address ++ keeping a (stretch a (length bytes) (c .lent .edac)) bytes) (two-bytes address small)
 
-  -- A READ EDAC of the same range is done, and shows it; a GATHER of it too, of up to 1,024 bytes.
-  pub what-was-written-is-read : address < 65536 → (control′ : ℕ) → codeOf control′ ≡ 0x09
+  -- A READ EDAC of the same range, where its reply has room, is done, and shows it; a GATHER of it too.
+  pub what-was-written-is-read : address < 65536 → 2 + length bytes ≤ v .limit → (control′ : ℕ) → codeOf control′ ≡ 0x09
       → cameTo v d control′ (bytes16 address ++ bytes16 (length bytes)) ≡ done (bytes16 address ++ now-there) (heldOf v (d .lent))
-  what-was-written-is-read small control′ is =
+  what-was-written-is-read small roomy control′ is =
       reads control′ is d (bytes16 address ++ bytes16 (length bytes))
-      ∙ ap (λ l. reading (heldOf v (d .lent)) (readEdacOf longestData l (bytes16 address ++ bytes16 (length bytes)))) its-edac
-      ∙ ap (reading (heldOf v (d .lent))) (edac.what-was-written-is-read longestData (c .lent .edac) address bytes (wrote .reply) left whole (wrote .is))
+      ∙ ap (λ l. reading (heldOf v (d .lent)) (readEdacOf (v .limit) l (bytes16 address ++ bytes16 (length bytes)))) its-edac
+      ∙ ap (reading (heldOf v (d .lent))) (edac.what-was-written-is-read (u .limit) (c .lent .edac) address bytes (wrote .reply) left whole (wrote .is) (v .limit) roomy)
       ∙ ap (λ l. done l (heldOf v (d .lent))) (answered-with small)
 
-  pub what-was-written-is-gathered : address < 65536 → length bytes ≤ 1024 → (control′ : ℕ) → codeOf control′ ≡ 0x0B
+  pub what-was-written-is-gathered : address < 65536 → 4 + length bytes ≤ v .limit → (control′ : ℕ) → codeOf control′ ≡ 0x0B
       → cameTo v d control′ (bytes16 address ++ bytes16 (length bytes)) ≡ done ((bytes16 address ++ bytes16 (length bytes)) ++ now-there) (heldOf v (d .lent))
   what-was-written-is-gathered small roomy control′ is =
       gathers control′ is d (bytes16 address ++ bytes16 (length bytes))
-      ∙ ap (λ l. reading (heldOf v (d .lent)) (gatherOf longestData l (bytes16 address ++ bytes16 (length bytes)))) its-edac
-      ∙ ap (reading (heldOf v (d .lent))) (edac.what-was-written-is-gathered longestData (c .lent .edac) address bytes (wrote .reply) left whole (wrote .is) (omega arith))
+      ∙ ap (λ l. reading (heldOf v (d .lent)) (gatherOf (v .limit) l (bytes16 address ++ bytes16 (length bytes)))) its-edac
+      ∙ ap (reading (heldOf v (d .lent))) (edac.what-was-written-is-gathered (u .limit) (c .lent .edac) address bytes (wrote .reply) left whole (wrote .is) (v .limit) roomy)
       ∙ ap (λ l. done ((bytes16 address ++ bytes16 (length bytes)) ++ drop 2 l) (heldOf v (d .lent))) (answered-with small)
 
   -- Where all of it is writable, that is what was written.
@@ -264,15 +265,15 @@ module _ (u : Unit) (message : List ℕ) (source control address : ℕ) (bytes :
       let there = two-bytes address small in
       ap (drop 2)
       (sym (answered-with small)
-      ∙ edac.writable-bytes-are-echoed longestData (c .lent .edac) address bytes (wrote .reply) left whole (wrote .is) (λ n low high. free n (omega arith) (omega arith)))
+      ∙ edac.writable-bytes-are-echoed (u .limit) (c .lent .edac) address bytes (wrote .reply) left whole (wrote .is) (λ n low high. free n (omega arith) (omega arith)))
 
   -- From bytes on the line to bytes on the line.
-  pub what-was-written-is-sent : address < 65536 → (message′ : List ℕ) (source′ control′ : ℕ) (calls′ : List Call)
+  pub what-was-written-is-sent : address < 65536 → 2 + length bytes ≤ v .limit → (message′ : List ℕ) (source′ control′ : ℕ) (calls′ : List Call)
       → Sends v message′ source′ control′ (bytes16 address ++ bytes16 (length bytes)) calls′ d → codeOf control′ ≡ 0x09 → polls control′ ≡ true
       → sentBy (leftBy v message′ calls′ d) ≡ packedOf (replyMessage 1 (v .address) source′ control′ (bytes16 address ++ now-there))
-  what-was-written-is-sent small message′ source′ control′ calls′ asks is polled =
+  what-was-written-is-sent small roomy message′ source′ control′ calls′ asks is polled =
       a-command-that-is-done-sends-its-data v message′ source′ control′ (bytes16 address ++ bytes16 (length bytes)) calls′ d asks polled (bytes16 address ++ now-there) (heldOf v (d .lent))
-      (what-was-written-is-read small control′ is)
+      (what-was-written-is-read small roomy control′ is)
 
 -- ---- WRITE FILE and READ FILE
 
@@ -281,16 +282,16 @@ module _ (u : Unit) (message : List ℕ) (source control address : ℕ) (bytes :
 module _ (u : Unit) (message : List ℕ) (source control : ℕ) (list : List ℕ) (calls : List Call) (c : Call) (sends : Sends u message source control list calls c)
     (code : codeOf control ≡ 0x08) (was-done : numberOf (leftBy u message calls c .answer) ≤ 2) (v : Unit) (mode : v .mode ≡ Application) (d : Call)
     (its-edac : d .lent .edac ≡ leftBy u message calls c .world .edac) where
-  abbrev filed : Wrote (writeFileOf longestData (c .lent .edac) list) (leftBy u message calls c .world .edac)
+  abbrev filed : Wrote (writeFileOf (u .limit) (c .lent .edac) list) (leftBy u message calls c .world .edac)
   filed =
-      wrote-so u message source control list calls c sends was-done (omega (arith, code)) (writeFileOf longestData (c .lent .edac) list)
+      wrote-so u message source control list calls c sends was-done (omega (arith, code)) (writeFileOf (u .limit) (c .lent .edac) list)
       (a-WRITE-FILE-comes-to u c control list code)
 
   reads-files : (control′ : ℕ) → codeOf control′ ≡ 0x07 → (e : Call) (asked : List ℕ)
-      → cameTo v e control′ asked ≡ reading (heldOf v (e .lent)) (readFileOf longestData (e .lent .edac) asked)
+      → cameTo v e control′ asked ≡ reading (heldOf v (e .lent)) (readFileOf (v .limit) (e .lent .edac) asked)
   reads-files control′ is e asked =
-      in-application longestData firstOfFram (codeOf control′) (e .lent .diagnostics) (heldOf v (e .lent)) asked 0x07
-      (reading (heldOf v (e .lent)) (readFileOf longestData (e .lent .edac) asked)) is mode refl
+      in-application (v .limit) firstOfFram (codeOf control′) (e .lent .diagnostics) (heldOf v (e .lent)) asked 0x07
+      (reading (heldOf v (e .lent)) (readFileOf (v .limit) (e .lent .edac) asked)) is mode refl
 
   -- Any READ FILE comes to what it came to before the WRITE FILE, with the body that was written last for each writable file that was written.
   pub a-READ-FILE-after-a-WRITE-FILE : (control′ : ℕ) → codeOf control′ ≡ 0x07 → (asked : List ℕ) → Bytes asked
@@ -298,23 +299,23 @@ module _ (u : Unit) (message : List ℕ) (source control : ℕ) (list : List ℕ
       ≡ showing (heldOf v (d .lent)) (λ _. filesAfter (listed list) (c .lent .edac) asked) (cameTo v (withEdac d (c .lent .edac)) control′ asked)
   a-READ-FILE-after-a-WRITE-FILE control′ is asked small =
       reads-files control′ is d asked
-      ∙ ap (λ l. reading (heldOf v (d .lent)) (readFileOf longestData l asked)) its-edac
+      ∙ ap (λ l. reading (heldOf v (d .lent)) (readFileOf (v .limit) l asked)) its-edac
       ∙ ap (reading (heldOf v (d .lent)))
-      (files.a-READ-FILE-after-a-WRITE-FILE longestData (c .lent .edac) list (filed .reply) (leftBy u message calls c .world .edac) (edac-is-whole u message source control list calls c sends)
-      (each-a-byte list (sends .bytes .1 .1 .1)) (filed .is) longestData asked (each-a-byte asked small))
-      ∙ read-so (heldOf v (d .lent)) (heldOf v (withEdac d (c .lent .edac) .lent)) (λ _. filesAfter (listed list) (c .lent .edac) asked) (readFileOf longestData (c .lent .edac) asked)
+      (files.a-READ-FILE-after-a-WRITE-FILE (u .limit) (c .lent .edac) list (filed .reply) (leftBy u message calls c .world .edac) (edac-is-whole u message source control list calls c sends)
+      (each-a-byte list (sends .bytes .1 .1 .1)) (filed .is) (v .limit) asked (each-a-byte asked small))
+      ∙ read-so (heldOf v (d .lent)) (heldOf v (withEdac d (c .lent .edac) .lent)) (λ _. filesAfter (listed list) (c .lent .edac) asked) (readFileOf (v .limit) (c .lent .edac) asked)
       ∙ ap (showing (heldOf v (d .lent)) (λ _. filesAfter (listed list) (c .lent .edac) asked)) (sym (reads-files control′ is (withEdac d (c .lent .edac)) asked))
 
-  -- A READ FILE of the files that were written is done, and answers what the WRITE FILE answered.
-  pub files-that-were-written-are-read : (reply : List ℕ) (after : Held) → cameTo u c control list ≡ done reply after → (control′ : ℕ) → codeOf control′ ≡ 0x07
+  -- A READ FILE of the files that were written, where its reply has room, is done, and answers what the WRITE FILE answered.
+  pub files-that-were-written-are-read : length list ≤ v .limit → (reply : List ℕ) (after : Held) → cameTo u c control list ≡ done reply after → (control′ : ℕ) → codeOf control′ ≡ 0x07
       → cameTo v d control′ (filesOf (listed list)) ≡ done reply (heldOf v (d .lent))
   unfolding wrote-so
-  files-that-were-written-are-read reply after came control′ is =
+  files-that-were-written-are-read roomy reply after came control′ is =
       let known = a-command-answered-so-was-done u message source control list calls c sends was-done in
       let same : known .reply ≡ reply = replies-alike (sym (known .is) ∙ came) in
       reads-files control′ is d (filesOf (listed list))
-      ∙ ap (λ l. reading (heldOf v (d .lent)) (readFileOf longestData l (filesOf (listed list)))) its-edac
+      ∙ ap (λ l. reading (heldOf v (d .lent)) (readFileOf (v .limit) l (filesOf (listed list)))) its-edac
       ∙ ap (reading (heldOf v (d .lent)))
-      (files.what-was-written-is-read-back longestData (c .lent .edac) list (filed .reply) (leftBy u message calls c .world .edac) (edac-is-whole u message source control list calls c sends)
-      (each-a-byte list (sends .bytes .1 .1 .1)) (filed .is))
+      (files.what-was-written-is-read-back (u .limit) (c .lent .edac) list (filed .reply) (leftBy u message calls c .world .edac) (edac-is-whole u message source control list calls c sends)
+      (each-a-byte list (sends .bytes .1 .1 .1)) (filed .is) (v .limit) roomy)
       ∙ ap (λ l. done l (heldOf v (d .lent))) same

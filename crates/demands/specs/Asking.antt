@@ -4,12 +4,11 @@ use mathlib.Core.Bool.{cond}
 use mathlib.Core.List.{List}
 use lib.Dec.{leb}
 use lib.ListN.{length}
-use Rattle.carrying.specs.Ending.{longestData}
 use Rattle.file_commands.specs.WriteFile.{judgeListOf}
 use Rattle.demands.specs.Orders.{doneAnswer, refusedAnswer}
 
--- What a unit in application mode answers to a WRITE FILE of a list of any length: a list judged fit is done; another is refused, or dropped for its
--- length (7) where no message can hold it.
-abbrev pub listAnswer : ℕ → List ℕ → ℕ
-listAnswer control list =
-    cond (judgeListOf longestData list) (doneAnswer control) (cond (leb (length list) longestData) (refusedAnswer control) 7)
+-- What a unit of this limit answers in application mode to a WRITE FILE of a list of any length: a list judged fit is done; another is refused, or
+-- dropped for its length (7) where no message on its bus can hold it.
+abbrev pub listAnswer : ℕ → ℕ → List ℕ → ℕ
+listAnswer limit control list =
+    cond (judgeListOf limit list) (doneAnswer control) (cond (leb (length list) limit) (refusedAnswer control) 7)

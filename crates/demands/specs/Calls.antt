@@ -2,7 +2,7 @@
 use Prim.Native.Nat.{ℕ, _+_, _≤_, _<_}
 use mathlib.Core.Path.{_≡_}
 use mathlib.Core.List.{List, [], _∷_}
-use mathlib.Core.Bool.{cond}
+use mathlib.Core.Bool.{true, cond}
 use mathlib.Core.Logic.{_⊎_}
 use lib.Dec.{eqb}
 use lib.ListN.{length, replicate}
@@ -11,14 +11,14 @@ use Rattle.line.specs.declared.receiver.Heard.{Heard}
 use Rattle.line.specs.declared.receiver.Heard.the-variants as heard
 use Rattle.line.specs.Receiver.{closedOf}
 use Rattle.blocks.specs.Fram.{Kept, kept, freshSums}
-use Rattle.carrying.specs.Ending.{Ending, done, refused, unfitted}
+use Rattle.carrying.specs.Ending.{isLimit, Ending, done, refused, unfitted}
 use Rattle.carrying.specs.Held.{Held}
 use Rattle.answer.specs.declared.Answer.{Answer}
 use Rattle.answer.specs.declared.Answer.the-variants.{Taken, Elsewhere}
 use Rattle.judging.specs.declared.Unit.{Unit}
 use Rattle.judging.specs.declared.fitting.Fit.the-variants.{Fits}
-use Rattle.judging.specs.Fitting.{framAsSetUp, lengthsFit}
-use Rattle.judging.specs.Judging.{verdictOf}
+use Rattle.judging.specs.Fitting.{framAsSetUp, largestCount, lengthsFit}
+use Rattle.judging.specs.Judging.{largestMessage, verdictOf}
 use Rattle.replying.specs.Replies.{replyMessage}
 use Rattle.unit.specs.World.{World, world, Outcome, outcome, withMessage}
 use Rattle.unit.specs.Steps.{firstOfFram, orderedOf, servedOf, stepOf}
@@ -75,13 +75,17 @@ abbrev pub AllSuit : ℕ → ℕ → ℕ → List Call → Type 0
 AllSuit address setUp size [] = Prim.Unit {0}
 AllSuit address setUp size (d ∷ calls) = Suits address setUp size d × AllSuit address setUp size calls
 
+-- A record that neither 26 nor 29 refuses: its count is at most 1,034, and its limit is one.
+abbrev pub Serves : Unit → Type 0
+Serves u = (u .receiver .count ≤ largestCount) × (isLimit (u .limit) ≡ true)
+
 -- Nothing is open: a FEND would close nothing, or an empty run.
 abbrev pub Idle : Receiver → Type 0
 Idle r = (closedOf (r .place) (r .count) ≡ heard.Taken) ⊎ (closedOf (r .place) (r .count) ≡ heard.Empty)
 
 -- What a served byte comes to, by what was heard.
 abbrev pub comesTo : Unit → Heard → World → Outcome
-comesTo u h w = servedOf u (verdictOf (u .address) h (w .message)) w
+comesTo u h w = servedOf u (verdictOf (largestMessage (u .limit)) (u .address) h (w .message)) w
 
 -- What a sound message comes to, by its parts: for this unit's address the command, answered; for another nothing.
 abbrev pub addressedOf : Unit → ℕ → ℕ → ℕ → List ℕ → World → Outcome

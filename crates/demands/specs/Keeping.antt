@@ -8,11 +8,11 @@ use Rattle.unit.specs.World.{World, world}
 use Rattle.unit.specs.Steps.{setUpOf, stepOf}
 use Rattle.demands.specs.Calls.{Call}
 
--- A call of `set_up` for an address, of `step` on a unit, or of `store_list` with a limit and a list. All that it names may be anything, of any
+-- A call of `set_up` for an address and a limit, of `step` on a unit, or of `store_list` with a limit and a list. All that it names may be anything, of any
 -- length, and another thing at each call, the unit too: a call that is refused is a call. Only EDAC memory is not the one that it names: it is lent
 -- the one spoken of. (`judge_list` is lent none.)
 pub data EdacCall : Type 0 where
-  setting-up : ℕ → World → EdacCall
+  setting-up : ℕ → ℕ → World → EdacCall
   stepping : Unit → Call → EdacCall
   storing : ℕ → List ℕ → EdacCall
 
@@ -23,6 +23,6 @@ onThis edac w = world edac (w .fram) (w .sums) (w .diagnostics) (w .message) (w 
 -- EDAC memory after calls one after the other, where nothing else changes it.
 abbrev pub edacLeft : List ℕ → List EdacCall → List ℕ
 edacLeft edac [] = edac
-edacLeft edac (setting-up address w ∷ calls) = edacLeft (setUpOf address (onThis edac w) .world .edac) calls
+edacLeft edac (setting-up address limit w ∷ calls) = edacLeft (setUpOf address limit (onThis edac w) .world .edac) calls
 edacLeft edac (stepping u c ∷ calls) = edacLeft (stepOf u (c .byte) (onThis edac (c .lent)) .world .edac) calls
 edacLeft edac (storing limit list ∷ calls) = edacLeft (storeListOf limit edac list .edac) calls

@@ -1,6 +1,7 @@
 -- What each answer leaves: 01, "One byte in, one answer out". Assumes nothing.
 use mathlib.Core.Path.{_≡_}
 use Prim.Native.Nat.{ℕ, _+_, _≤_}
+use mathlib.Core.Logic.{_⊎_}
 use mathlib.Core.Bool.{cond, _&&_}
 use mathlib.Core.List.{List}
 use lib.Dec.{leb}
@@ -19,9 +20,9 @@ countsAfter number diagnostics = cond (leb 5 number && leb number 8) (countedUp 
 
 -- What any call with a byte leaves, by its answer.
 pub record Leaves (u : Unit) (w : World) (o : Outcome) : Type 0 where
-  -- 20 to 26 change nothing at all.
+  -- 20 to 26 and 29 change nothing at all.
   pub nothing-by-a-refused-call : 20 ≤ numberOf (o .answer) → (o .unit ≡ u) × (o .world ≡ w)
-  -- 3 to 10 leave EDAC, FRAM, sums and mode unchanged, and so do 0 and 20 to 26: all but a command done.
+  -- 3 to 10 leave EDAC, FRAM, sums and mode unchanged, and so do 0, 20 to 26 and 29: all but a command done.
   pub memory-unless-a-command-is-done : (numberOf (o .answer) ≡ 1 → ⊥) → (numberOf (o .answer) ≡ 2 → ⊥)
       → (o .world .edac ≡ w .edac) × (o .world .fram ≡ w .fram) × (o .world .sums ≡ w .sums) × (o .unit .mode ≡ u .mode)
   pub counts : o .world .diagnostics ≡ countsAfter (numberOf (o .answer)) (w .diagnostics)
@@ -30,9 +31,14 @@ pub record Leaves (u : Unit) (w : World) (o : Outcome) : Type 0 where
   pub reply : o .world .reply ≡ begun (w .reply) (take (sentOf (o .answer)) (o .world .reply))
   pub address : o .unit .address ≡ u .address
   pub fram-length : o .unit .«fram_len» ≡ u .«fram_len»
+  pub limit : o .unit .limit ≡ u .limit
 
--- What set-up leaves, by its answer. 0 computes all sums and changes nothing else that is lent; 20 to 25 (set-up has
--- no 26) change nothing at all and hand back a record that is never served.
-pub record SetUpLeaves (address : ℕ) (w : World) (o : Outcome) : Type 0 where
-  pub set-up : numberOf (o .answer) ≡ 0 → (o .unit ≡ somebody address w) × (o .world ≡ withSums w (freshSums (w .fram)))
-  pub refused : (numberOf (o .answer) ≡ 0 → ⊥) → (20 ≤ numberOf (o .answer)) × (numberOf (o .answer) ≤ 25) × (o .unit ≡ nobody) × (o .world ≡ w)
+-- The refusals of set-up: it has no 26.
+abbrev pub SetUpRefusal : ℕ → Type 0
+SetUpRefusal number = ((20 ≤ number) × (number ≤ 25)) ⊎ (number ≡ 29)
+
+-- What set-up leaves, by its answer. 0 computes all sums and changes nothing else that is lent; a refusal changes nothing at all and hands
+-- back a record that is never served.
+pub record SetUpLeaves (address limit : ℕ) (w : World) (o : Outcome) : Type 0 where
+  pub set-up : numberOf (o .answer) ≡ 0 → (o .unit ≡ somebody address limit w) × (o .world ≡ withSums w (freshSums (w .fram)))
+  pub refused : (numberOf (o .answer) ≡ 0 → ⊥) → SetUpRefusal (numberOf (o .answer)) × (o .unit ≡ nobody) × (o .world ≡ w)

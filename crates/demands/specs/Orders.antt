@@ -6,22 +6,21 @@ use mathlib.Core.List.{List, _∷_, _++_}
 use lib.ListN.{length, take, drop}
 use Rattle.line.specs.Framing.{fend}
 use Rattle.line.specs.Packing.{bodyOf}
-use Rattle.carrying.specs.Ending.{longestData, Ending}
+use Rattle.carrying.specs.Ending.{Ending}
 use Rattle.carrying.specs.Held.{Held, inside}
 use Rattle.carrying.specs.Storing.{withData}
 use Rattle.command.specs.Command.{commandOf}
 use Rattle.answer.specs.Answers.{sentOf}
 use Rattle.judging.specs.declared.Unit.{Unit}
-use Rattle.judging.specs.Fitting.{largestCount}
 use Rattle.replying.specs.Replies.{codeOf, polls, sealed}
 use Rattle.unit.specs.World.{World, world, Outcome, heldOf}
 use Rattle.unit.specs.Steps.{firstOfFram}
-use Rattle.demands.specs.Calls.{Call, lentTo, fedOf, bytesOf, Suits, AllSuit, Idle, Bytes}
+use Rattle.demands.specs.Calls.{Call, lentTo, fedOf, bytesOf, Suits, AllSuit, Serves, Idle, Bytes}
 
 -- A command for this unit, with data of at most `most` bytes: sealed with its CRC, packed, and sent with both its FENDs, the last of them by the call
 -- `c`, to a unit that has nothing open, by calls that are served.
 pub record SendsUpTo (most : ℕ) (u : Unit) (message : List ℕ) (source control : ℕ) (field : List ℕ) (calls : List Call) (c : Call) : Type 0 where
-  pub low : u .receiver .count ≤ largestCount
+  pub serves : Serves u
   pub idle : Idle (u .receiver)
   pub bytes : Bytes (u .address ∷ source ∷ control ∷ field)
   pub short : length field ≤ most
@@ -30,9 +29,9 @@ pub record SendsUpTo (most : ℕ) (u : Unit) (message : List ℕ) (source contro
   pub suiting : AllSuit (u .address) (u .«fram_len») (length message) calls
   pub suits : Suits (u .address) (u .«fram_len») (length message) c
 
--- One with data of legal length.
+-- One with data of legal length: as much as the unit's limit allows.
 abbrev pub Sends : Unit → List ℕ → ℕ → ℕ → List ℕ → List Call → Call → Type 0
-Sends u message source control field calls c = SendsUpTo longestData u message source control field calls c
+Sends u message source control field calls c = SendsUpTo (u .limit) u message source control field calls c
 
 -- What the last of these calls lends, with the command in the message buffer.
 abbrev pub withItsMessage : Unit → List ℕ → ℕ → ℕ → List ℕ → Call → World
@@ -56,7 +55,7 @@ refusedAnswer control = cond (polls control) 3 4
 
 -- What a command comes to on what a call lends.
 abbrev pub cameTo : Unit → Call → ℕ → List ℕ → Ending Held
-cameTo u c control field = commandOf longestData firstOfFram (codeOf control) (c .lent .diagnostics) (heldOf u (c .lent)) field
+cameTo u c control field = commandOf (u .limit) firstOfFram (codeOf control) (c .lent .diagnostics) (heldOf u (c .lent)) field
 
 -- The call with another FRAM, or another EDAC memory, in place of the one that it names.
 abbrev pub withFram : Call → List ℕ → Call

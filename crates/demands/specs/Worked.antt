@@ -32,12 +32,12 @@ seenOf u w (byte ∷ bytes) =
       left = rest .left;
     }
 
--- A fresh unit 0x41 with this EDAC memory, all else being zeros: what bytes show.
+-- A fresh unit 0x41 with a limit of 1,028 and this EDAC memory, all else being zeros: what bytes show.
 abbrev pub lentWith : List ℕ → World
 lentWith edac = world edac (replicate 256 0) (replicate 1 0) (replicate 31 0) (replicate 1033 0) (replicate 2068 0)
 
 abbrev pub shownBy : List ℕ → List ℕ → Seen
-shownBy edac bytes = let o = setUpOf 0x41 (lentWith edac) in seenOf (o .unit) (o .world) bytes
+shownBy edac bytes = let o = setUpOf 0x41 1028 (lentWith edac) in seenOf (o .unit) (o .world) bytes
 
 abbrev pub zeros : List ℕ
 zeros = replicate 1536 0

@@ -172,18 +172,18 @@ module _ (room : ℕ) (edac : List ℕ) (address : ℕ) (bytes reply after : Lis
       (what-memory-then-holds ∙ kept-alike false (word16At asking 0) (stretch (word16At asking 0) (length bytes) edac) bytes old (λ i low high. free i low (omega arith)))
 
   -- A READ EDAC of the range that was written answers what the WRITE EDAC answered.
-  pub what-was-written-is-read : readEdacOf room after asking ≡ done reply tt
-  what-was-written-is-read =
-      edac-read-long room after asking (length bytes) (λ e. omega arith) refl (sym (two-bytes (length bytes) few))
-      ∙ edac-read-inside room after asking (length bytes) (λ e. omega (arith, known .some)) (omega (arith, known .fits)) (word16At asking 0) refl holds-there
+  pub what-was-written-is-read : (asked : ℕ) → 2 + length bytes ≤ asked → readEdacOf asked after asking ≡ done reply tt
+  what-was-written-is-read asked roomy =
+      edac-read-long asked after asking (length bytes) (λ e. omega arith) refl (sym (two-bytes (length bytes) few))
+      ∙ edac-read-inside asked after asking (length bytes) (λ e. omega (arith, known .some)) (omega arith) (word16At asking 0) refl holds-there
       ∙ ap (λ l. done l tt) (sym what-a-WRITE-EDAC-answers)
 
   -- And a GATHER of it shows the same bytes, where the reply has room for its head of four bytes.
-  pub what-was-written-is-gathered : 4 + length bytes ≤ room → gatherOf room after asking ≡ done (asking ++ drop 2 reply) tt
+  pub what-was-written-is-gathered : (asked : ℕ) → 4 + length bytes ≤ asked → gatherOf asked after asking ≡ done (asking ++ drop 2 reply) tt
   unfolding listedFrom
-  what-was-written-is-gathered roomy =
+  what-was-written-is-gathered asked roomy =
       let count : word16At asking 2 ≡ length bytes = two-bytes (length bytes) few in
-      ranges-shown room after asking (λ e. omega arith)
+      ranges-shown asked after asking (λ e. omega arith)
       (ap (λ (n : ℕ). rangeHolds (word16At asking 0) n && true) count ∙ simp (ne-eqb (length bytes) 0 (λ e. omega (arith, known .some)), holds-there))
       (omega (arith, count))
       ∙ ap (λ l. done l tt)

@@ -11,14 +11,13 @@ use lib.ListN.{length}
 use Rattle.memory.specs.Edac.{edacSize}
 use Rattle.read_only.proofs.Runs.{both}
 use Rattle.field.specs.Reading.{isWhole}
-use Rattle.carrying.specs.Ending.{longestData, leastLimit, isLimit, done, refused}
+use Rattle.carrying.specs.Ending.{isLimit, done, refused}
 use Rattle.file_commands.specs.ReadFile.{filesShown}
 use Rattle.file_commands.specs.WriteFile.{listed, filesOf, filesStored, judgeListOf, storage, storeListOf, StoringLeaves, writeFileOf}
 
 -- what it is to be fit
 pub record Fit (limit : ℕ) (list : List ℕ) : Type 0 where
-  pub least : leastLimit ≤ limit
-  pub most : limit ≤ longestData
+  pub limited : isLimit limit ≡ true
   pub some : 0 < length list
   pub short : length list ≤ limit
   pub whole : isWhole (listed list) ≡ true
@@ -28,25 +27,22 @@ module _ (limit : ℕ) (list : List ℕ) where
   unfolding judgeListOf
   what-is-fit e =
       let first = both (isLimit limit) _ e in
-      let ends = both (leb leastLimit limit) (leb limit longestData) (first .0) in
       let second = both (ltb 0 (length list)) _ (first .1) in
       let third = both (leb (length list) limit) (isWhole (listed list)) (second .1) in
       record {
-        least = leb-true leastLimit limit (ends .0);
-        most = leb-true limit longestData (ends .1);
+        limited = first .0;
         some = ltb-true 0 (length list) (second .0);
         short = leb-true (length list) limit (third .0);
         whole = third .1;
       }
 
   -- what is neither empty nor too long is judged by how it ends
-  pub judged-by-its-end : leastLimit ≤ limit → limit ≤ longestData → 0 < length list → length list ≤ limit → judgeListOf limit list ≡ isWhole (listed list)
+  pub judged-by-its-end : isLimit limit ≡ true → 0 < length list → length list ≤ limit → judgeListOf limit list ≡ isWhole (listed list)
   unfolding judgeListOf
-  judged-by-its-end least most some short =
-      simp (le-leb leastLimit limit least, le-leb limit longestData most, lt-ltb 0 (length list) some, le-leb (length list) limit short)
+  judged-by-its-end limited some short = simp (limited, lt-ltb 0 (length list) some, le-leb (length list) limit short)
 
   pub so-it-is-fit : Fit limit list → judgeListOf limit list ≡ true
-  so-it-is-fit fit = judged-by-its-end (fit .least) (fit .most) (fit .some) (fit .short) ∙ fit .whole
+  so-it-is-fit fit = judged-by-its-end (fit .limited) (fit .some) (fit .short) ∙ fit .whole
 
   pub unfit : (Fit limit list → ⊥) → judgeListOf limit list ≡ false
   unfit never = apart (judgeListOf limit list) refl

@@ -152,13 +152,13 @@ module _ (room : ℕ) (edac field reply after : List ℕ) (size : length edac �
   none-but-none [] some = absurd (omega arith)
   none-but-none (file ∷ files) some = ne-eqb (suc (length files)) 0 (λ e. omega arith)
 
-  -- A READ FILE of the files that were written answers what the WRITE FILE answered.
-  pub what-was-written-is-read-back : readFileOf room after (filesOf (listed field)) ≡ done reply tt
+  -- A READ FILE of the files that were written, where its reply has room, answers what the WRITE FILE answered.
+  pub what-was-written-is-read-back : (asked : ℕ) → length field ≤ asked → readFileOf asked after (filesOf (listed field)) ≡ done reply tt
   unfolding readFileOf
-  what-was-written-is-read-back =
+  what-was-written-is-read-back asked roomy =
       let width = listed-width field (written .fit .whole) in
       simp (
         none-but-none (filesOf (listed field)) (omega (arith, written .fit .some)),
-        le-ltb room (filesWidth (filesOf (listed field))) (omega (arith, written .fit .short)),
+        le-ltb asked (filesWidth (filesOf (listed field))) (omega arith),
       )
       (ap (λ l. done l tt) (ap (λ l. filesShown l (filesOf (listed field))) (sym (written .stores)) ∙ written .shows))

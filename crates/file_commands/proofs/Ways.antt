@@ -1,6 +1,6 @@
 -- One law for each way through a command's function, on a list from a place of the data field on. Assumes nothing.
 use mathlib.Core.Path.{_≡_, refl, sym, ap, _∙_, subst}
-use mathlib.Core.Bool.{Bool, true, false}
+use mathlib.Core.Bool.{Bool, true, false, false≢true}
 use mathlib.Core.List.{List}
 use Prim.Native.Nat.{ℕ, _-_, _≤_, _<_}
 use native.Mathlib.Omega.{arith}
@@ -11,7 +11,7 @@ use Rattle.memory.specs.Bytes.{begun}
 use Rattle.memory.specs.Edac.{edacSize}
 use Rattle.field.specs.Reading.{isWhole}
 use Rattle.carrying.specs.declared.Ended.the-variants.{Done, Refused}
-use Rattle.carrying.specs.Ending.{longestData, leastLimit, left, leaves}
+use Rattle.carrying.specs.Ending.{isLimit, left, leaves}
 use Rattle.carrying.proofs.Writing.{is-done, is-done-storing, is-refused}
 use Rattle.file_commands.specs.ReadFile.{filesShown, filesWidth, readFileOf}
 use Rattle.file_commands.specs.declared.write_file.Storing.{Storing}
@@ -55,11 +55,8 @@ module _ (room : ℕ) (edac field reply : List ℕ) (at : ℕ) where
 
 -- judging, by one law for each test
 module _ (limit : ℕ) (list : List ℕ) (start : ℕ) where
-  pub a-limit-too-low : limit < leastLimit → false ≡ judgeListOf limit (drop start list)
-  a-limit-too-low low = sym (unfit limit (drop start list) (λ fit. let least = fit .least in omega arith))
-
-  pub a-limit-too-high : longestData < limit → false ≡ judgeListOf limit (drop start list)
-  a-limit-too-high high = sym (unfit limit (drop start list) (λ fit. let most = fit .most in omega arith))
+  pub a-limit-of-no-bus : isLimit limit ≡ false → false ≡ judgeListOf limit (drop start list)
+  a-limit-of-no-bus none = sym (unfit limit (drop start list) (λ fit. false≢true (sym none ∙ fit .limited)))
 
   pub an-empty-list : length list ≤ start → false ≡ judgeListOf limit (drop start list)
   an-empty-list end =
@@ -71,11 +68,11 @@ module _ (limit : ℕ) (list : List ℕ) (start : ℕ) where
       let rest = length-drop start list in
       sym (unfit limit (drop start list) (λ fit. let short = fit .short in omega arith))
 
-  pub a-list-of-some-length : leastLimit ≤ limit → limit ≤ longestData → start < length list → length list - start ≤ limit → (answer : Bool)
+  pub a-list-of-some-length : isLimit limit ≡ true → start < length list → length list - start ≤ limit → (answer : Bool)
       → answer ≡ isWhole (listed (drop start list)) → answer ≡ judgeListOf limit (drop start list)
-  a-list-of-some-length least most some short answer judged =
+  a-list-of-some-length limited some short answer judged =
       let rest = length-drop start list in
-      judged ∙ sym (judged-by-its-end limit (drop start list) least most (omega arith) (omega arith))
+      judged ∙ sym (judged-by-its-end limit (drop start list) limited (omega arith) (omega arith))
 
 -- storing, by one law for each way
 module _ (limit : ℕ) (edac list : List ℕ) (start : ℕ) where

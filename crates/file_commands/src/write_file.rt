@@ -2,8 +2,7 @@
 // anything is stored, and shown after everything is.
 use crate::read_file::width;
 use carrying::Ended;
-use carrying::LEAST_LIMIT;
-use carrying::LONGEST_DATA;
+use carrying::is_limit;
 use field::reader::new;
 use field::reader::past;
 use memory::edac::EDAC_SIZE;
@@ -39,10 +38,7 @@ fn is_whole(field: &[u8], start: usize) -> bool
 pub fn judge_list(limit: usize, list: &[u8], start: usize) -> bool
     ensures { λ r. ⌜ r ≡ judgeListOf limit (drop start (now (list .entry))) ⌝ }
 {
-    if limit < LEAST_LIMIT {
-        return false;
-    }
-    if LONGEST_DATA < limit {
+    if !is_limit(limit) {
         return false;
     }
     if list.len() <= start {

@@ -105,11 +105,11 @@ module _ (room first : ℕ) (memory : Kept) (poke reply : List ℕ) (after : Kep
       (λ six. let size = eqb-true (length field) 6 six in ranges-alike asked field (word16At field 4) (omega arith))
       (λ _. refl))
 
--- A PEEK of the range that was poked shows the bytes poked.
+-- A PEEK of the range that was poked, where its reply has room, shows the bytes poked.
 pub what-was-poked-is-peeked : (room first : ℕ) (memory : Kept) (address : ℕ) (bytes reply : List ℕ) (after : Kept)
-    → pokeOf room first memory (bytes32 address ++ bytes) ≡ done reply after → length bytes < 65536
-    → peekOf room first (after .fram) (bytes32 address ++ bytes16 (length bytes)) ≡ done (bytes32 address ++ bytes) tt
-what-was-poked-is-peeked room first memory address bytes reply after came few =
+    → pokeOf room first memory (bytes32 address ++ bytes) ≡ done reply after → length bytes < 65536 → (asked : ℕ) → 4 + length bytes ≤ asked
+    → peekOf asked first (after .fram) (bytes32 address ++ bytes16 (length bytes)) ≡ done (bytes32 address ++ bytes) tt
+what-was-poked-is-peeked room first memory address bytes reply after came few asked roomy =
     let poke = bytes32 address ++ bytes in
     let field = bytes32 address ++ bytes16 (length bytes) in
     let known = a-POKE-that-was-done room first memory poke reply after came in
@@ -117,8 +117,8 @@ what-was-poked-is-peeked room first memory address bytes reply after came few =
     let found : placeOf first (length (after .fram)) (word32At field 0) (length bytes) ≡ At (known .at)
     = ap₂ (λ (l n : ℕ). placeOf first l (word32At field 0) n) (size-after room first memory poke reply after came) (sym size) ∙ known .found in
     let start : known .at ≤ length (memory .fram) = omega (arith, inside room first memory poke reply after came) in
-    peek-long room first (after .fram) field (length bytes) (λ e. omega arith) refl (sym (two-bytes (length bytes) few))
-    ∙ peek-inside room first (after .fram) field (length bytes) (λ e. omega (arith, known .some)) (omega (arith, known .fits)) (known .at) found
+    peek-long asked first (after .fram) field (length bytes) (λ e. omega arith) refl (sym (two-bytes (length bytes) few))
+    ∙ peek-inside asked first (after .fram) field (length bytes) (λ e. omega (arith, known .some)) (omega arith) (known .at) found
     ∙ ap (λ l. done (bytes32 address ++ l) tt)
     (ap (stretch (known .at) (length bytes)) (fram-after room first memory poke reply after came)
     ∙ stretch-of-a-store (memory .fram) (known .at) bytes start)

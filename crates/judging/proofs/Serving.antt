@@ -5,7 +5,7 @@ use mathlib.Core.List.{List}
 use Prim.Native.Nat.{ℕ, _≤_}
 use native.Mathlib.Omega.{arith}
 use borrow.Author.Tests.{eqb-true, ltb-false}
-use lib.Dec.{eqb, ltb}
+use lib.Dec.{eqb, leb, ltb}
 use lib.ListN.{getD}
 use Rattle.line.specs.declared.receiver.Heard.{Heard}
 use Rattle.line.specs.declared.receiver.Heard.the-variants as heard
@@ -14,17 +14,18 @@ use Rattle.line.specs.Receiver.{receiveOf}
 use Rattle.memory.specs.Counts.{channels}
 use Rattle.memory.specs.Edac.{edacSize}
 use Rattle.blocks.specs.Fram.{blockStart}
+use Rattle.carrying.specs.Ending.{isLimit}
 use Rattle.carrying.proofs.Room.{either-way}
 use Rattle.answer.specs.declared.Answer.{Answer}
-use Rattle.answer.specs.declared.Answer.the-variants.{BadAddress, BadEdac, BadFram, BadSums, BadDiagnostics, BadBuffers}
+use Rattle.answer.specs.declared.Answer.the-variants.{BadAddress, BadEdac, BadFram, BadSums, BadDiagnostics, BadBuffers, BadCount, BadLimit}
 use Rattle.judging.specs.declared.Unit.{Unit}
 use Rattle.judging.specs.declared.Lengths.{Lengths}
 use Rattle.judging.specs.declared.Verdict.{Verdict}
 use Rattle.judging.specs.declared.Verdict.the-variants.{Quiet, Dropped, Command}
 use Rattle.judging.specs.declared.fitting.Fit.{Fit}
 use Rattle.judging.specs.declared.fitting.Fit.the-variants.{Fits, Unfit}
-use Rattle.judging.specs.Fitting.{forbidden, framFits, framAsSetUp, countFit, lengthsFit, setUpFit, stepFit}
-use Rattle.judging.specs.Judging.{soundOf, runOf, verdictOf, receivedOf, unless, judgeOf}
+use Rattle.judging.specs.Fitting.{forbidden, framFits, framAsSetUp, largestCount, limitFit, countFit, lengthsFit, setUpFit, stepFit}
+use Rattle.judging.specs.Judging.{largestMessage, soundOf, runOf, verdictOf, receivedOf, unless, judgeOf}
 
 -- the tests that a call passed, as equations
 pub record Passed (address : ℕ) (fits : Bool) (l : Lengths) (next : Fit) : Type 0 where
@@ -89,59 +90,89 @@ fitted address fits l next p =
       reply-fits = ltb-false (l .reply) replySize (p .reply-tested);
     }
 
-pub a-served-set-up-fits : (address : ℕ) (l : Lengths) → setUpFit address l ≡ Fits → Fitted l
-unfolding setUpFit
-a-served-set-up-fits address l e = fitted address (framFits (l .fram)) l Fits (all-passed address (framFits (l .fram)) l Fits e)
+-- and the limit is one
+limited : (limit : ℕ) → limitFit limit ≡ Fits → isLimit limit ≡ true
+limited limit e = apart (isLimit limit) refl e
+  where
+    apart : (b : Bool) → isLimit limit ≡ b → cond b Fits (Unfit BadLimit) ≡ Fits → isLimit limit ≡ true
+    apart true is f = is
+    apart false is f = unfit BadLimit f
 
-pub a-served-step-fits : (u : Unit) (l : Lengths) → stepFit u l ≡ Fits → Fitted l
-unfolding stepFit
-a-served-step-fits u l e =
-    fitted (u .address) (framAsSetUp (l .fram) (u .«fram_len»)) l (countFit (u .receiver .count))
-    (all-passed (u .address) (framAsSetUp (l .fram) (u .«fram_len»)) l (countFit (u .receiver .count)) e)
+counted : (count : ℕ) (next : Fit) → countFit count next ≡ Fits → next ≡ Fits
+counted count next e = apart (leb count largestCount) e
+  where
+    apart : (b : Bool) → cond b next (Unfit BadCount) ≡ Fits → next ≡ Fits
+    apart true f = f
+    apart false f = unfit BadCount f
+
+module _ (address limit : ℕ) (l : Lengths) (e : setUpFit address limit l ≡ Fits) where
+  passed-set-up : Passed address (framFits (l .fram)) l (limitFit limit)
+  unfolding setUpFit
+  passed-set-up = all-passed address (framFits (l .fram)) l (limitFit limit) e
+
+  pub a-served-set-up-fits : Fitted l
+  a-served-set-up-fits = fitted address (framFits (l .fram)) l (limitFit limit) passed-set-up
+
+  pub a-served-set-up-is-limited : isLimit limit ≡ true
+  a-served-set-up-is-limited = limited limit (passed-set-up .next-tested)
+
+module _ (u : Unit) (l : Lengths) (e : stepFit u l ≡ Fits) where
+  passed-step : Passed (u .address) (framAsSetUp (l .fram) (u .«fram_len»)) l (countFit (u .receiver .count) (limitFit (u .limit)))
+  unfolding stepFit
+  passed-step = all-passed (u .address) (framAsSetUp (l .fram) (u .«fram_len»)) l (countFit (u .receiver .count) (limitFit (u .limit))) e
+
+  pub a-served-step-fits : Fitted l
+  a-served-step-fits = fitted (u .address) (framAsSetUp (l .fram) (u .«fram_len»)) l (countFit (u .receiver .count) (limitFit (u .limit))) passed-step
+
+  pub a-served-step-is-limited : isLimit (u .limit) ≡ true
+  a-served-step-is-limited = limited (u .limit) (counted (u .receiver .count) (limitFit (u .limit)) (passed-step .next-tested))
 
 -- ---- what a verdict guarantees
 
 -- a command has a message's length
-abbrev Legal : Verdict → Type 0
-Legal (Quiet answer) = 0 ≤ 0
-Legal (Dropped answer channel) = 0 ≤ 0
-Legal (Command count) = (shortestMessage ≤ count) × (count ≤ messageSize)
+abbrev Legal : ℕ → Verdict → Type 0
+Legal largest (Quiet answer) = 0 ≤ 0
+Legal largest (Dropped answer channel) = 0 ≤ 0
+Legal largest (Command count) = (shortestMessage ≤ count) × (count ≤ largest)
 
-legal-run : (address count : ℕ) (message : List ℕ) → Legal (runOf address count message)
+legal-run : (largest address count : ℕ) (message : List ℕ) → Legal largest (runOf largest address count message)
 unfolding runOf
-legal-run address count message =
-    either-way Legal (ltb count shortestMessage) _ _ (λ _. omega arith)
-    (λ enough. either-way Legal (ltb messageSize count) _ _ (λ _. omega arith)
-    (λ fits. either-way Legal (soundOf count message) _ _
-    (λ _. either-way Legal (eqb (getD message 0 0) address) _ _
-    (λ _. (ltb-false count shortestMessage enough, ltb-false messageSize count fits))
+legal-run largest address count message =
+    either-way (Legal largest) (ltb count shortestMessage) _ _ (λ _. omega arith)
+    (λ enough. either-way (Legal largest) (ltb largest count) _ _ (λ _. omega arith)
+    (λ fits. either-way (Legal largest) (soundOf count message) _ _
+    (λ _. either-way (Legal largest) (eqb (getD message 0 0) address) _ _
+    (λ _. (ltb-false count shortestMessage enough, ltb-false largest count fits))
     (λ _. omega arith))
     (λ _. omega arith)))
 
-legal-verdict : (address : ℕ) (h : Heard) (message : List ℕ) → Legal (verdictOf address h message)
+legal-verdict : (largest address : ℕ) (h : Heard) (message : List ℕ) → Legal largest (verdictOf largest address h message)
 unfolding verdictOf
-legal-verdict address heard.Taken message = omega arith
-legal-verdict address heard.Empty message = omega arith
-legal-verdict address heard.Framing message = omega arith
-legal-verdict address (heard.Message count) message = legal-run address count message
+legal-verdict largest address heard.Taken message = omega arith
+legal-verdict largest address heard.Empty message = omega arith
+legal-verdict largest address heard.Framing message = omega arith
+legal-verdict largest address (heard.Message count) message = legal-run largest address count message
 
 -- and what is lent to a call that is not refused has the right lengths
-abbrev pub Guaranteed : Lengths → Verdict → Type 0
-Guaranteed l (Quiet answer) = 0 ≤ 0
-Guaranteed l (Dropped answer channel) = 0 ≤ 0
-Guaranteed l (Command count) = Fitted l × (shortestMessage ≤ count) × (count ≤ messageSize)
+abbrev pub Guaranteed : ℕ → Lengths → Verdict → Type 0
+Guaranteed limit l (Quiet answer) = 0 ≤ 0
+Guaranteed limit l (Dropped answer channel) = 0 ≤ 0
+Guaranteed limit l (Command count) = Fitted l × (isLimit limit ≡ true) × (shortestMessage ≤ count) × (count ≤ largestMessage limit)
 
-guaranteed : (l : Lengths) (v : Verdict) → Fitted l → Legal v → Guaranteed l v
-guaranteed l (Quiet answer) f legal = omega arith
-guaranteed l (Dropped answer channel) f legal = omega arith
-guaranteed l (Command count) f legal = (f, legal .0, legal .1)
+guaranteed : (limit : ℕ) (l : Lengths) (v : Verdict) → Fitted l → isLimit limit ≡ true → Legal (largestMessage limit) v → Guaranteed limit l v
+guaranteed limit l (Quiet answer) f is legal = omega arith
+guaranteed limit l (Dropped answer channel) f is legal = omega arith
+guaranteed limit l (Command count) f is legal = (f, is, legal .0, legal .1)
 
-pub what-a-verdict-guarantees : (u : Unit) (byte : ℕ) (l : Lengths) (message : List ℕ) → Guaranteed l (judgeOf u byte l message .verdict)
+pub what-a-verdict-guarantees : (u : Unit) (byte : ℕ) (l : Lengths) (message : List ℕ)
+    → let j = judgeOf u byte l message in Guaranteed (j .unit .limit) l (j .verdict)
 unfolding judgeOf receivedOf
 what-a-verdict-guarantees u byte l message = apart (stepFit u l) refl
   where
-    apart : (f : Fit) → stepFit u l ≡ f → Guaranteed l (unless f u message (receivedOf u byte message) .verdict)
+    apart : (f : Fit) → stepFit u l ≡ f → let j = unless f u message (receivedOf u byte message) in Guaranteed (j .unit .limit) l (j .verdict)
     apart (Unfit answer) e = omega arith
     apart Fits e =
-        let got = receiveOf messageSize (u .receiver) byte message in
-        guaranteed l (verdictOf (u .address) (got .heard) (got .message)) (a-served-step-fits u l e) (legal-verdict (u .address) (got .heard) (got .message))
+        let largest = largestMessage (u .limit) in
+        let got = receiveOf largest (u .receiver) byte message in
+        guaranteed (u .limit) l (verdictOf largest (u .address) (got .heard) (got .message)) (a-served-step-fits u l e) (a-served-step-is-limited u l e)
+        (legal-verdict largest (u .address) (got .heard) (got .message))

@@ -1,13 +1,14 @@
--- 01, "One byte in, one answer out": 20 to 26, lowest number first. Assumes nothing.
+-- 01, "One byte in, one answer out": 20 to 26, lowest number first; after them 29 (02, T-06). Assumes nothing.
 use Prim.Native.Nat.{ℕ, _%_}
 use mathlib.Core.Bool.{Bool, cond, _&&_, _||_}
 use lib.Dec.{eqb, leb, ltb}
 use Rattle.memory.specs.Counts.{channels}
 use Rattle.memory.specs.Edac.{edacSize}
 use Rattle.blocks.specs.Fram.{blockSize, blockStart}
+use Rattle.carrying.specs.Ending.{isLimit}
 use Rattle.judging.specs.declared.Unit.{Unit}
 use Rattle.judging.specs.declared.Lengths.{Lengths}
-use Rattle.answer.specs.declared.Answer.the-variants.{BadAddress, BadEdac, BadFram, BadSums, BadDiagnostics, BadBuffers, BadCount}
+use Rattle.answer.specs.declared.Answer.the-variants.{BadAddress, BadEdac, BadFram, BadSums, BadDiagnostics, BadBuffers, BadCount, BadLimit}
 use Rattle.line.specs.Packing.{messageSize, replySize}
 use Rattle.judging.specs.declared.fitting.Fit.{Fit}
 use Rattle.judging.specs.declared.fitting.Fit.the-variants.{Fits, Unfit}
@@ -27,7 +28,7 @@ mostFram = 262144
 abbrev pub framFits : ℕ → Bool
 framFits size = leb leastFram size && leb size mostFram && eqb (size % blockSize) 0
 
--- The largest count of a receiver: one above the longest message.
+-- The largest count of a receiver: one above the longest message of any bus.
 abbrev pub largestCount : ℕ
 largestCount = 1034
 
@@ -47,16 +48,21 @@ lengthsFit address fits l next =
     (Unfit BadFram))
     (Unfit BadEdac))
 
--- Set-up has no 26.
-unfoldable pub setUpFit : ℕ → Lengths → Fit
-setUpFit address l = lengthsFit address (framFits (l .fram)) l Fits
+-- 29: a limit outside 260 to 1,028.
+abbrev pub limitFit : ℕ → Fit
+limitFit limit = cond (isLimit limit) Fits (Unfit BadLimit)
 
--- After set-up, an FRAM length other than the one set up is 22. A receiver record with a count above 1,034 is 26.
+-- Set-up has no 26.
+unfoldable pub setUpFit : ℕ → ℕ → Lengths → Fit
+setUpFit address limit l = lengthsFit address (framFits (l .fram)) l (limitFit limit)
+
+-- After set-up, an FRAM length other than the one set up is 22. A receiver record with a count above 1,034 is 26, whatever the limit.
 abbrev pub framAsSetUp : ℕ → ℕ → Bool
 framAsSetUp size setUp = framFits size && eqb size setUp
 
-abbrev pub countFit : ℕ → Fit
-countFit count = cond (leb count largestCount) Fits (Unfit BadCount)
+-- 26, then what comes after it.
+abbrev pub countFit : ℕ → Fit → Fit
+countFit count next = cond (leb count largestCount) next (Unfit BadCount)
 
 unfoldable pub stepFit : Unit → Lengths → Fit
-stepFit u l = lengthsFit (u .address) (framAsSetUp (l .fram) (u .«fram_len»)) l (countFit (u .receiver .count))
+stepFit u l = lengthsFit (u .address) (framAsSetUp (l .fram) (u .«fram_len»)) l (countFit (u .receiver .count) (limitFit (u .limit)))

@@ -1,4 +1,4 @@
--- What one byte brings about: 01, "The line" (the tests at the close), "The message" and "One byte in, one answer out". Assumes nothing.
+-- What one byte brings about: 01, "The line" (the tests at the close), "The message" and "One byte in, one answer out"; 02, T-06. Assumes nothing.
 use Prim.Native.Nat.{ℕ, _+_, _-_}
 use mathlib.Core.Bool.{Bool, cond}
 use mathlib.Core.List.{List}
@@ -8,7 +8,7 @@ use Rattle.crc.specs.Sum.{sumOf}
 use Rattle.line.specs.declared.receiver.Receiver.{Receiver}
 use Rattle.line.specs.declared.receiver.Heard.{Heard}
 use Rattle.line.specs.declared.receiver.Heard.the-variants as heard
-use Rattle.line.specs.Packing.{shortestMessage, messageSize}
+use Rattle.line.specs.Packing.{shortestMessage}
 use Rattle.line.specs.Receiver.{receiveOf}
 use Rattle.field.specs.Fields.{word16At}
 use Rattle.answer.specs.declared.Answer.{Answer}
@@ -46,32 +46,37 @@ dropped answer which = Dropped answer (firstCount + which)
 abbrev pub soundOf : ℕ → List ℕ → Bool
 soundOf count message = eqb (sumOf (take (count - 2) message)) (word16At message (count - 2))
 
--- A run that is neither empty nor framing: under 5 bytes, over 1,033 bytes, CRC, address, command. The tests look at as many first
--- bytes of the message buffer as the count says.
-unfoldable pub runOf : ℕ → ℕ → List ℕ → Verdict
-runOf address count message =
+-- The largest message on a bus with this limit: so much data, and the five bytes of a message without any. At 1,028 that is 1,033.
+abbrev pub largestMessage : ℕ → ℕ
+largestMessage limit = limit + shortestMessage
+
+-- A run that is neither empty nor framing: under 5 bytes, over the `largest` message, CRC, address, command. The tests look at as many
+-- first bytes of the message buffer as the count says.
+unfoldable pub runOf : ℕ → ℕ → ℕ → List ℕ → Verdict
+runOf largest address count message =
     cond (ltb count shortestMessage) (dropped Runt 1)
-    (cond (ltb messageSize count) (dropped Oversize 2)
+    (cond (ltb largest count) (dropped Oversize 2)
     (cond (soundOf count message)
     (cond (eqb (getD message 0 0) address) (Command count) (Quiet Elsewhere))
     (dropped BadCrc 3)))
 
 -- The verdict on what was heard: a byte taken, an empty run, framing, or a run to judge.
-unfoldable pub verdictOf : ℕ → Heard → List ℕ → Verdict
-verdictOf address heard.Taken message = Quiet Taken
-verdictOf address heard.Empty message = Quiet Taken
-verdictOf address heard.Framing message = dropped Framing 0
-verdictOf address (heard.Message count) message = runOf address count message
+unfoldable pub verdictOf : ℕ → ℕ → Heard → List ℕ → Verdict
+verdictOf largest address heard.Taken message = Quiet Taken
+verdictOf largest address heard.Empty message = Quiet Taken
+verdictOf largest address heard.Framing message = dropped Framing 0
+verdictOf largest address (heard.Message count) message = runOf largest address count message
 
 abbrev pub withReceiver : Unit → Receiver → Unit
 withReceiver u receiver =
-    record { address = u .address; mode = u .mode; «fram_len» = u .«fram_len»; receiver = receiver }
+    record { address = u .address; limit = u .limit; mode = u .mode; «fram_len» = u .«fram_len»; receiver = receiver }
 
--- One byte received.
+-- One byte received. The limit says what is stored, counted and too long.
 unfoldable pub receivedOf : Unit → ℕ → List ℕ → Judging
 receivedOf u byte message =
-    let got = receiveOf messageSize (u .receiver) byte message in
-    judging (withReceiver u (got .receiver)) (verdictOf (u .address) (got .heard) (got .message)) (got .message)
+    let largest = largestMessage (u .limit) in
+    let got = receiveOf largest (u .receiver) byte message in
+    judging (withReceiver u (got .receiver)) (verdictOf largest (u .address) (got .heard) (got .message)) (got .message)
 
 -- A call that is refused loses the byte, and changes nothing.
 abbrev pub unless : Fit → Unit → List ℕ → Judging → Judging

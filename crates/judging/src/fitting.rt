@@ -3,6 +3,7 @@ use crate::Lengths;
 use crate::Unit;
 use answer::Answer;
 use blocks::BLOCK_SIZE;
+use carrying::is_limit;
 use line::framing::FEND;
 use line::framing::FESC;
 use line::packing::MESSAGE_SIZE;
@@ -12,7 +13,7 @@ use memory::edac::EDAC_SIZE;
 ghost use mathlib.Core.Path.{_≡_};
 ghost use lib.Dec.{eqb};
 ghost use Rattle.blocks.specs.Fram.{blockStart};
-ghost use Rattle.judging.specs.Fitting.{forbidden, framFits, framAsSetUp, countFit, lengthsFit, setUpFit, stepFit};
+ghost use Rattle.judging.specs.Fitting.{forbidden, framFits, framAsSetUp, countFit, limitFit, lengthsFit, setUpFit, stepFit};
 
 // Whether a call can be served.
 pub enum Fit {
@@ -28,7 +29,7 @@ const LEAST_FRAM: usize = 256;
 
 const MOST_FRAM: usize = 262_144;
 
-// The largest count that a receiver has.
+// The largest count that a receiver has, whatever its limit.
 const LARGEST_COUNT: usize = 1034;
 
 // Whether no unit has this address.
@@ -95,10 +96,21 @@ fn lengths_fit(address: u8, fits: bool, lengths: Lengths, next: Fit) -> Fit
     next
 }
 
-pub fn set_up_fit(address: u8, lengths: Lengths) -> Fit
-    ensures { λ r. ⌜ r ≡ setUpFit address lengths ⌝ }
+// 29.
+fn limit_fits(limit: usize) -> Fit
+    ensures { λ r. ⌜ r ≡ limitFit limit ⌝ }
 {
-    lengths_fit(address, fram_fits(lengths.fram), lengths, Fit::Fits)
+    if is_limit(limit) {
+        Fit::Fits
+    } else {
+        Fit::Unfit(Answer::BadLimit)
+    }
+}
+
+pub fn set_up_fit(address: u8, limit: usize, lengths: Lengths) -> Fit
+    ensures { λ r. ⌜ r ≡ setUpFit address limit lengths ⌝ }
+{
+    lengths_fit(address, fram_fits(lengths.fram), lengths, limit_fits(limit))
 }
 
 // Whether FRAM has the length that was set up.
@@ -111,12 +123,12 @@ fn fram_as_set_up(size: usize, set_up: usize) -> bool
     false
 }
 
-// 26.
-fn count_fits(count: usize) -> Fit
-    ensures { λ r. ⌜ r ≡ countFit count ⌝ }
+// 26, and then what comes after it.
+fn count_fits(count: usize, next: Fit) -> Fit
+    ensures { λ r. ⌜ r ≡ countFit count next ⌝ }
 {
     if count <= LARGEST_COUNT {
-        Fit::Fits
+        next
     } else {
         Fit::Unfit(Answer::BadCount)
     }
@@ -130,6 +142,6 @@ pub fn step_fit(unit: Unit, lengths: Lengths) -> Fit
         unit.address,
         fram_as_set_up(lengths.fram, unit.fram_len),
         lengths,
-        count_fits(receiver.count),
+        count_fits(receiver.count, limit_fits(unit.limit as usize)),
     )
 }

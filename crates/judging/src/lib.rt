@@ -4,7 +4,6 @@ pub mod fitting;
 
 use answer::Answer;
 use carrying::Mode;
-use line::packing::MESSAGE_SIZE;
 use line::packing::SHORTEST_MESSAGE;
 use line::receiver::Heard;
 use line::receiver::Receiver;
@@ -12,11 +11,13 @@ ghost use mathlib.Core.Path.{_≡_};
 ghost use Prim.Native.Nat.{_≤_};
 ghost use lib.ListN.{length};
 ghost use Rattle.line.specs.Packing.{shortestMessage, messageSize};
-ghost use Rattle.judging.specs.Judging.{soundOf, runOf, judgingOf, receivedOf, judgeOf};
+ghost use Rattle.judging.specs.Judging.{largestMessage, soundOf, runOf, judgingOf, receivedOf, judgeOf};
 
-// What the unit is between two calls: its address, its mode, the length of FRAM that was set up, and its receiver.
+// What the unit is between two calls: its address, the most data bytes of a message on its bus, its mode, the length of FRAM that
+// was set up, and its receiver.
 pub struct Unit {
     pub address: u8,
+    pub limit: u16,
     pub mode: Mode,
     pub fram_len: usize,
     pub receiver: Receiver,
@@ -69,15 +70,15 @@ fn is_sound(count: usize, message: &[u8]) -> bool
     crc::sum(&message[0..end]) == field::fields::word16(message, end)
 }
 
-// A run that is neither empty nor framing.
-fn run(address: u8, count: usize, message: &[u8]) -> Verdict
-    requires { ⌜ messageSize ≤ length (now message) ⌝ }
-    ensures { λ r. ⌜ r ≡ runOf address count (now (message .entry)) ⌝ }
+// A run that is neither empty nor framing, where the largest message has so many bytes.
+fn run(largest: u16, address: u8, count: usize, message: &[u8]) -> Verdict
+    requires { ⌜ (largest ≤ messageSize) × (messageSize ≤ length (now message)) ⌝ }
+    ensures { λ r. ⌜ r ≡ runOf largest address count (now (message .entry)) ⌝ }
 {
     if count < SHORTEST_MESSAGE {
         return Verdict::Dropped(Answer::Runt, RUNTS);
     }
-    if MESSAGE_SIZE < count {
+    if (largest as usize) < count {
         return Verdict::Dropped(Answer::Oversize, OVERSIZES);
     }
     if !is_sound(count, message) {
@@ -91,16 +92,18 @@ fn run(address: u8, count: usize, message: &[u8]) -> Verdict
 
 // One byte received by a unit that is not refused.
 fn received(unit: Unit, byte: u8, message: &mut [u8]) -> Judged
-    requires { ⌜ messageSize ≤ length (now message) ⌝ }
+    requires { ⌜ (largestMessage (unit .limit) ≤ messageSize) × (messageSize ≤ length (now message)) ⌝ }
     ensures { λ r. ⌜ judgingOf r (now (message .exit)) ≡ receivedOf unit byte (now (message .entry)) ⌝ }
 {
     let receiver = unit.receiver;
     let mode = unit.mode;
-    let got = line::receiver::receive(MESSAGE_SIZE as u16, receiver, byte, message);
+    let largest = unit.limit + SHORTEST_MESSAGE as u16;
+    let got = line::receiver::receive(largest, receiver, byte, message);
     let heard = got.heard;
     let after = got.receiver;
     let next = Unit {
         address: unit.address,
+        limit: unit.limit,
         mode,
         fram_len: unit.fram_len,
         receiver: after,
@@ -119,7 +122,7 @@ fn received(unit: Unit, byte: u8, message: &mut [u8]) -> Judged
             verdict: Verdict::Dropped(Answer::Framing, FRAMINGS),
         },
         Heard::Message(count) => {
-            let verdict = run(unit.address, count, message);
+            let verdict = run(largest, unit.address, count, message);
             Judged {
                 unit: next,
                 verdict,

@@ -7,17 +7,19 @@ use mathlib.Core.Logic.{⊎-elim}
 use mathlib.Core.Bool.{Bool, true, false, cond}
 use mathlib.Core.List.{List, [], _∷_}
 use native.Mathlib.Omega.{arith}
+use borrow.Author.Tests.{ne-eqb}
 use lib.Dec.{eqb}
 use lib.ListN.{length, set, drop, length-set}
 use lib.Seq.{drop-set-lt}
 use Rattle.line.specs.Framing.{fend, fesc, tfend, tfesc}
-use Rattle.line.specs.Receiver.{Reception, opened, storedOf, countedOf, afterEscapeOf, insideOf, receiveOf, feedOf}
+use Rattle.line.specs.Receiver.{Reception, opened, unpackedOf, storedOf, countedOf, afterEscapeOf, insideOf, receiveOf, feedOf}
 use Rattle.line.specs.declared.receiver.Place.{Place}
 use Rattle.line.specs.declared.receiver.Place.the-variants.{Fresh, Run, Escape, Fault}
 use Rattle.line.specs.declared.receiver.Receiver.{Receiver}
 use Rattle.line.proofs.Cases.{below-or-not}
-use Rattle.line.proofs.Receiving.{below-the-largest-a-byte-is-stored, from-the-largest-on-nothing-is-stored}
-use Rattle.line.proofs.Counting.{one-count}
+use Rattle.line.specs.declared.receiver.Heard.the-variants.{Taken}
+use Rattle.line.proofs.Receiving.{below-the-largest-a-byte-is-stored, from-the-largest-on-nothing-is-stored, past-the-largest-the-count-stays}
+use Rattle.line.proofs.Counting.{counting-stays-within}
 
 in-both : (Q : Reception → Type 0) (p : Bool) {x y : Reception} → Q x → Q y → Q (cond p x y)
 in-both Q true a b = a
@@ -64,15 +66,51 @@ module _
     any-bytes-keep (byte ∷ bytes) r l p = any-bytes-keep bytes _ _ (a-byte-keeps r byte l p)
 
 module _ (largest : ℕ) where
+  pub the-count-never-passes-a-bound-above-the-largest
+      : (bound : ℕ)
+      → largest < bound
+      → (bytes : List ℕ) (receiver : Receiver) (message : List ℕ)
+      → receiver .count ≤ bound
+      → feedOf largest receiver bytes message .receiver .count ≤ bound
+  the-count-never-passes-a-bound-above-the-largest bound above =
+      any-bytes-keep largest (λ (r : Receiver) (l : List ℕ). r .count ≤ bound)
+      (λ r l h. omega arith)
+      (λ place r l h. h)
+      (λ byte r l h. counting-stays-within largest bound (r .count) above h)
+
   pub the-count-never-passes-one-above-the-largest
       : (bytes : List ℕ) (receiver : Receiver) (message : List ℕ)
       → receiver .count ≤ largest + 1
       → feedOf largest receiver bytes message .receiver .count ≤ largest + 1
-  the-count-never-passes-one-above-the-largest =
-      any-bytes-keep largest (λ (r : Receiver) (l : List ℕ). r .count ≤ largest + 1)
-      (λ r l h. omega arith)
-      (λ place r l h. h)
-      (λ byte r l h. omega (arith, one-count largest (r .count) h))
+  the-count-never-passes-one-above-the-largest = the-count-never-passes-a-bound-above-the-largest (largest + 1) (omega arith)
+
+  -- a count above the largest, which a caller may have lent: a byte other than FEND leaves it as it is, and is not stored
+  pub past-the-largest-a-byte-is-neither-counted-nor-stored
+      : (receiver : Receiver) (byte : ℕ) (message : List ℕ)
+      → largest < receiver .count
+      → (byte ≡ fend → ⊥)
+      → (receiveOf largest receiver byte message .receiver .count ≡ receiver .count)
+      × (receiveOf largest receiver byte message .heard ≡ Taken)
+      × (receiveOf largest receiver byte message .message ≡ message)
+  unfolding receiveOf insideOf afterEscapeOf
+  past-the-largest-a-byte-is-neither-counted-nor-stored receiver byte message above other =
+      rw (ne-eqb byte fend other) (inside-so (receiver .place))
+    where
+      Stays : Reception → Type 0
+      Stays o = (o .receiver .count ≡ receiver .count) × (o .heard ≡ Taken) × (o .message ≡ message)
+
+      unpacked : (n : ℕ) → Stays (unpackedOf largest (receiver .count) n message)
+      unpacked n = (
+        past-the-largest-the-count-stays largest (receiver .count) above,
+        refl,
+        from-the-largest-on-nothing-is-stored largest (receiver .count) n message (omega arith),
+      )
+
+      inside-so : (place : Place) → Stays (insideOf largest place (receiver .count) byte message)
+      inside-so Fresh = (refl, refl, refl)
+      inside-so Run = in-both Stays (eqb byte fesc) (refl, refl, refl) (unpacked byte)
+      inside-so Escape = in-both Stays (eqb byte tfend) (unpacked fend) (in-both Stays (eqb byte tfesc) (unpacked fesc) (refl, refl, refl))
+      inside-so Fault = (refl, refl, refl)
 
   -- a part of the buffer that no store below the largest changes is changed by no bytes
   untouched

@@ -1,6 +1,6 @@
 -- Counting and storing byte after byte: the count stops at one above the largest, and what is stored stands from the count on.
 -- Assumes nothing.
-use Prim.Native.Nat.{ℕ, zero, suc, _+_, _-_, _≤_, min}
+use Prim.Native.Nat.{ℕ, zero, suc, _+_, _-_, _≤_, _<_, min}
 use mathlib.Core.Path.{_≡_, _∙_}
 use mathlib.Core.Logic.{⊎-elim}
 use mathlib.Core.List.{List, [], _∷_}
@@ -33,6 +33,13 @@ module _ (largest : ℕ) where
       ⊎-elim
       (λ l. past-the-largest-the-count-stays largest count l ∙ omega arith)
       (λ l. up-to-the-largest-the-count-rises largest count l ∙ omega arith)
+      (below-or-not largest count)
+
+  pub counting-stays-within : (bound count : ℕ) → largest < bound → count ≤ bound → countedOf largest count ≤ bound
+  counting-stays-within bound count above h =
+      ⊎-elim
+      (λ l. omega (arith, past-the-largest-the-count-stays largest count l))
+      (λ l. omega (arith, up-to-the-largest-the-count-rises largest count l))
       (below-or-not largest count)
 
   counting-never-falls : (count : ℕ) → count ≤ countedOf largest count

@@ -17,20 +17,22 @@ use Rattle.judging.proofs.Serving.{Guaranteed, what-a-verdict-guarantees}
 use Rattle.unit.specs.World.{World, lengthsOf, Outcome, outcome, withMessage, withDiagnostics, withSums}
 use Rattle.unit.specs.Steps.{nobody, somebody, setUpOf, commandedOf, servedOf, stepOf}
 
-pub set-up-refused : (address : ℕ) (w : World) (answer : Answer) → setUpFit address (lengthsOf w) ≡ Unfit answer → outcome nobody answer w ≡ setUpOf address w
+pub set-up-refused : (address limit : ℕ) (w : World) (answer : Answer) → setUpFit address limit (lengthsOf w) ≡ Unfit answer
+    → outcome nobody answer w ≡ setUpOf address limit w
 unfolding setUpOf
-set-up-refused address w answer e = simp e
+set-up-refused address limit w answer e = simp e
 
-pub set-up-served : (address : ℕ) (w : World) (sums : List ℕ) → setUpFit address (lengthsOf w) ≡ Fits → sums ≡ freshSums (w .fram)
-    → outcome (somebody address w) Taken (withSums w sums) ≡ setUpOf address w
+pub set-up-served : (address limit : ℕ) (w : World) (sums : List ℕ) → setUpFit address limit (lengthsOf w) ≡ Fits → sums ≡ freshSums (w .fram)
+    → outcome (somebody address limit w) Taken (withSums w sums) ≡ setUpOf address limit w
 unfolding setUpOf
-set-up-served address w sums e s = simp (e, s)
+set-up-served address limit w sums e s = simp (e, s)
 
 -- a byte that was judged
 module _ (u : Unit) (byte : ℕ) (w : World) (r : Judged) (message : List ℕ) (e : judgingOf r message ≡ judgeOf u byte (lengthsOf w) (w .message)) where
-  pub guaranteed-by : (v : Verdict) → r .verdict ≡ v → Guaranteed (lengthsOf w) v
+  pub guaranteed-by : (v : Verdict) → r .verdict ≡ v → Guaranteed (r .unit .limit) (lengthsOf w) v
   guaranteed-by v k =
-      subst (Guaranteed (lengthsOf w)) (sym (ap (λ (j : Judging). j .verdict) e) ∙ k) (what-a-verdict-guarantees u byte (lengthsOf w) (w .message))
+      subst (Guaranteed (r .unit .limit) (lengthsOf w)) k
+      (subst (λ (j : Judging). Guaranteed (j .unit .limit) (lengthsOf w) (j .verdict)) (sym e) (what-a-verdict-guarantees u byte (lengthsOf w) (w .message)))
 
   served-as : (v : Verdict) → r .verdict ≡ v → servedOf (r .unit) v (withMessage w message) ≡ stepOf u byte w
   unfolding stepOf

@@ -1,4 +1,4 @@
--- Set-up, and one byte in and one answer out: 01, "The unit and its neighbours" and "One byte in, one answer out". Assumes nothing.
+-- Set-up, and one byte in and one answer out: 01, "The unit and its neighbours" and "One byte in, one answer out"; 02, T-06. Assumes nothing.
 use Prim.Native.Nat.{ℕ, _-_}
 use mathlib.Core.List.{List}
 use lib.ListN.{length, getD}
@@ -7,7 +7,7 @@ use Rattle.memory.specs.Bytes.{stretch}
 use Rattle.memory.specs.Counts.{countedUp}
 use Rattle.blocks.specs.Fram.{freshSums}
 use Rattle.carrying.specs.declared.Mode.the-variants.{Bootloader}
-use Rattle.carrying.specs.Ending.{longestData, Ending}
+use Rattle.carrying.specs.Ending.{Ending}
 use Rattle.carrying.specs.Held.{Held, after}
 use Rattle.command.specs.Command.{commandOf}
 use Rattle.answer.specs.declared.Answer.the-variants.{Taken}
@@ -25,20 +25,20 @@ use Rattle.unit.specs.World.{World, lengthsOf, Outcome, outcome, withMod
 
 -- The record that a refused set-up hands back.
 abbrev pub nobody : Unit
-nobody = record { address = 0; mode = Bootloader; «fram_len» = 0; receiver = fresh }
+nobody = record { address = 0; limit = 0; mode = Bootloader; «fram_len» = 0; receiver = fresh }
 
 -- The record of a unit that was set up.
-abbrev pub somebody : ℕ → World → Unit
-somebody address w = record { address = address; mode = Bootloader; «fram_len» = length (w .fram); receiver = fresh }
+abbrev pub somebody : ℕ → ℕ → World → Unit
+somebody address limit w = record { address = address; limit = limit; mode = Bootloader; «fram_len» = length (w .fram); receiver = fresh }
 
 -- A refused set-up changes nothing that is lent.
-abbrev pub setUpAs : Fit → ℕ → World → Outcome
-setUpAs (Unfit answer) address w = outcome nobody answer w
-setUpAs Fits address w = outcome (somebody address w) Taken (withSums w (freshSums (w .fram)))
+abbrev pub setUpAs : Fit → ℕ → ℕ → World → Outcome
+setUpAs (Unfit answer) address limit w = outcome nobody answer w
+setUpAs Fits address limit w = outcome (somebody address limit w) Taken (withSums w (freshSums (w .fram)))
 
 -- Set-up computes all sums, starts in bootloader mode with a fresh receiver, answers 0 and changes nothing else that is lent.
-unfoldable pub setUpOf : ℕ → World → Outcome
-setUpOf address w = setUpAs (setUpFit address (lengthsOf w)) address w
+unfoldable pub setUpOf : ℕ → ℕ → World → Outcome
+setUpOf address limit w = setUpAs (setUpFit address limit (lengthsOf w)) address limit w
 
 -- ---- one byte in, one answer out
 
@@ -54,10 +54,10 @@ answered u destination source control field ending w =
     let s = saidOf destination source control field ending (w .reply) in
     outcome (withMode u (held .mode)) (s .answer) (withReply (withHeld w held) (s .reply))
 
--- A command for this unit, carried out and answered.
+-- A command for this unit, carried out and answered. Its reply has no more data than the unit's limit allows.
 abbrev pub orderedOf : Unit → ℕ → ℕ → ℕ → List ℕ → World → Outcome
 orderedOf u destination source control field w =
-    answered u destination source control field (commandOf longestData firstOfFram (codeOf control) (w .diagnostics) (heldOf u w) field) w
+    answered u destination source control field (commandOf (u .limit) firstOfFram (codeOf control) (w .diagnostics) (heldOf u w) field) w
 
 -- The same of a sound message: its first `count` bytes are destination, source, control, data and CRC.
 unfoldable pub commandedOf : Unit → ℕ → World → Outcome

@@ -48,7 +48,7 @@ outcomeOf r w = outcome (r .unit) (r .answer) w
 -- ---- one thing changed, and nothing else
 
 abbrev pub withMode : Unit → Mode → Unit
-withMode u mode = record { address = u .address; mode = mode; «fram_len» = u .«fram_len»; receiver = u .receiver }
+withMode u mode = record { address = u .address; limit = u .limit; mode = mode; «fram_len» = u .«fram_len»; receiver = u .receiver }
 
 abbrev pub withMessage : World → List ℕ → World
 withMessage w message = world (w .edac) (w .fram) (w .sums) (w .diagnostics) message (w .reply)

@@ -1,6 +1,5 @@
 // The unit: a record by value, set-up, and one byte in and one answer out.
 pub use answer::Answer;
-use carrying::LONGEST_DATA;
 use carrying::Mode;
 use judging::Lengths;
 pub use judging::Unit;
@@ -15,12 +14,14 @@ use replying::CONTROL;
 use replying::CRC_SIZE;
 use replying::HEAD;
 ghost use mathlib.Core.Path.{_≡_};
+ghost use mathlib.Core.Bool.{true};
 ghost use Prim.Native.Nat.{_≤_};
 ghost use lib.ListN.{length};
 ghost use Rattle.line.specs.Packing.{shortestMessage, messageSize, replySize};
 ghost use Rattle.memory.specs.Counts.{channels};
 ghost use Rattle.memory.specs.Edac.{edacSize};
 ghost use Rattle.blocks.specs.Fram.{blockStart};
+ghost use Rattle.carrying.specs.Ending.{isLimit};
 ghost use Rattle.unit.specs.World.{world, outcomeOf};
 ghost use Rattle.unit.specs.Steps.{setUpOf, commandedOf, stepOf};
 
@@ -37,9 +38,11 @@ const DATA_END: usize = 1031;
 const FIRST_OF_FRAM: u32 = 0x2004_0000;
 
 // Sets a unit up: computes all sums, in bootloader mode with a fresh receiver. A refused set-up hands back a record with unit
-// address 0, so that every later call with it is refused.
+// address 0, so that every later call with it is refused. The limit is wider here than in the record, so that no number is cut to one
+// that would be taken.
 pub fn set_up(
     address: u8,
+    limit: usize,
     edac: &[u8],
     fram: &[u8],
     sums: &mut [u16],
@@ -48,7 +51,7 @@ pub fn set_up(
     reply: &[u8],
 ) -> Stepped
     ensures { λ r. ⌜ outcomeOf r (world (now (edac .entry)) (now (fram .entry)) (now (sums .exit)) (now (diagnostics .entry)) (now (message .entry)) (now (reply .entry)))
-        ≡ setUpOf address (world (now (edac .entry)) (now (fram .entry)) (now (sums .entry)) (now (diagnostics .entry)) (now (message .entry)) (now (reply .entry))) ⌝ }
+        ≡ setUpOf address limit (world (now (edac .entry)) (now (fram .entry)) (now (sums .entry)) (now (diagnostics .entry)) (now (message .entry)) (now (reply .entry))) ⌝ }
 {
     let lengths = Lengths {
         edac: edac.len(),
@@ -62,11 +65,12 @@ pub fn set_up(
         place: Place::Fresh,
         count: 0,
     };
-    let fit = set_up_fit(address, lengths);
+    let fit = set_up_fit(address, limit, lengths);
     match fit {
         Fit::Unfit(answer) => Stepped {
             unit: Unit {
                 address: 0,
+                limit: 0,
                 mode: Mode::Bootloader,
                 fram_len: 0,
                 receiver: fresh,
@@ -75,9 +79,11 @@ pub fn set_up(
         },
         Fit::Fits => {
             blocks::compute_sums(fram, sums);
+            let kept = limit as u16;
             Stepped {
                 unit: Unit {
                     address,
+                    limit: kept,
                     mode: Mode::Bootloader,
                     fram_len: fram.len(),
                     receiver: fresh,
@@ -101,7 +107,8 @@ fn commanded(
     reply: &mut [u8],
 ) -> Stepped
     requires { ⌜ (length (now edac) ≡ edacSize) × (length (now fram) ≡ blockStart (length (now sums))) × (length (now diagnostics) ≡ channels)
-        × (messageSize ≤ length (now message)) × (replySize ≤ length (now reply)) × (shortestMessage ≤ count) × (count ≤ messageSize) ⌝ }
+        × (messageSize ≤ length (now message)) × (replySize ≤ length (now reply)) × (isLimit (unit .limit) ≡ true)
+        × (shortestMessage ≤ count) × (count ≤ messageSize) ⌝ }
     ensures { λ r. ⌜ outcomeOf r (world (now (edac .exit)) (now (fram .exit)) (now (sums .exit)) (now (diagnostics .entry)) (now (message .entry)) (now (reply .exit)))
         ≡ commandedOf unit count (world (now (edac .entry)) (now (fram .entry)) (now (sums .entry)) (now (diagnostics .entry)) (now (message .entry)) (now (reply .entry))) ⌝ }
 {
@@ -111,7 +118,7 @@ fn commanded(
     let receiver = unit.receiver;
     let mut made = [0u8; MESSAGE_SIZE];
     let carried = command::carry_out(
-        LONGEST_DATA,
+        unit.limit as usize,
         FIRST_OF_FRAM,
         code,
         mode,
@@ -128,6 +135,7 @@ fn commanded(
     Stepped {
         unit: Unit {
             address: unit.address,
+            limit: unit.limit,
             mode: after,
             fram_len: unit.fram_len,
             receiver,

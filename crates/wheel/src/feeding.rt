@@ -24,6 +24,7 @@ fn fed_by(stepped: Stepped) -> Fed {
 // Sets a unit up.
 pub fn begun(
     address: u8,
+    limit: usize,
     edac: &[u8; 1536],
     fram: &[u8],
     sums: &mut [u16],
@@ -31,7 +32,16 @@ pub fn begun(
     message: &[u8; 1033],
     reply: &[u8; 2068],
 ) -> Fed {
-    fed_by(unit::set_up(address, edac, fram, sums, diagnostics, message, reply))
+    fed_by(unit::set_up(
+        address,
+        limit,
+        edac,
+        fram,
+        sums,
+        diagnostics,
+        message,
+        reply,
+    ))
 }
 
 // Feeds the unit one byte.

@@ -1,4 +1,4 @@
-// A wheel on standard input and output: `wheel [ADDRESS [FRAM]]`. It sets a unit up, feeds it every byte that it reads and
+// A wheel on standard input and output: `wheel [ADDRESS [FRAM [LIMIT]]]`. It sets a unit up, feeds it every byte that it reads and
 // writes every reply; where the input ends it says on standard error how often each answer came, by its number, which
 // diagnostics moved, and how many replies and bytes were written.
 mod feeding;
@@ -18,6 +18,7 @@ ghost use Prim.Native.Nat.{_≤_};
 // Sets a unit up and feeds it byte by byte to the end of the input.
 fn run(
     address: u8,
+    limit: usize,
     edac: &mut [u8; 1536],
     fram: &mut [u8],
     sums: &mut [u16],
@@ -26,8 +27,17 @@ fn run(
 ) {
     let mut reply = [0u8; 2068];
     let mut buffer = [0u8; 131072];
-    let mut tally = [0u64; 27];
-    let mut fed = begun(address, edac, fram, sums, diagnostics, message, &reply);
+    let mut tally = [0u64; 30];
+    let mut fed = begun(
+        address,
+        limit,
+        edac,
+        fram,
+        sums,
+        diagnostics,
+        message,
+        &reply,
+    );
     let mut flow = port::fresh();
     let mut turns = u64::MAX;
     loop {
@@ -53,7 +63,7 @@ fn run(
 }
 
 // A wheel with fresh memory.
-fn serve(address: u8, size: usize)
+fn serve(address: u8, size: usize, limit: usize)
     requires { ⌜ size ≤ 262144 ⌝ }
 {
     let mut edac = [0u8; 1536];
@@ -64,6 +74,7 @@ fn serve(address: u8, size: usize)
     let blocks = size / 256;
     run(
         address,
+        limit,
         &mut edac,
         &mut fram[0..size],
         &mut sums[0..blocks],
@@ -73,7 +84,7 @@ fn serve(address: u8, size: usize)
 }
 
 // The number by which the unit would refuse to be set up so, or 0.
-fn refusal(address: u8, size: usize) -> u8 {
+fn refusal(address: u8, size: usize, limit: usize) -> u8 {
     let lengths = Lengths {
         edac: 1536,
         fram: size,
@@ -82,7 +93,7 @@ fn refusal(address: u8, size: usize) -> u8 {
         message: 1033,
         reply: 2068,
     };
-    let fit = set_up_fit(address, lengths);
+    let fit = set_up_fit(address, limit, lengths);
     match fit {
         Fit::Fits => 0,
         Fit::Unfit(answer) => number_of(answer),
@@ -94,15 +105,17 @@ fn main() {
         report::help();
         return;
     }
-    if os::arg_count() > 3 {
+    if os::arg_count() > 4 {
         report::usage();
         return;
     }
     let address = arguments::address();
     let size = arguments::size();
-    match refusal(address, size) {
-        0 => serve(address, size),
+    let limit = arguments::limit();
+    match refusal(address, size, limit) {
+        0 => serve(address, size, limit),
         20 => report::bad_address(),
+        29 => report::bad_limit(),
         _ => report::bad_fram(),
     }
 }

@@ -1,4 +1,4 @@
-// The program's arguments: a unit address and a size of FRAM, each in decimal, or in hexadecimal after 0x.
+// The program's arguments: a unit address, a size of FRAM and a limit, each in decimal, or in hexadecimal after 0x.
 
 ghost use Prim.Native.Nat.{_≤_};
 
@@ -87,6 +87,11 @@ pub fn size() -> usize
         return 0;
     }
     number as usize
+}
+
+// The limit that was asked for: the most data bytes of a message. Which no unit has is for the unit to say.
+pub fn limit() -> usize {
+    argument(3, 1_028) as usize
 }
 
 // Whether the first argument asks for help.

@@ -9,28 +9,35 @@ fn said(words: &[u8]) {
 pub fn help() {
     io::write_all(
         STDOUT_FILENO,
-        b"usage: wheel [ADDRESS [FRAM]]\n\
+        b"usage: wheel [ADDRESS [FRAM [LIMIT]]]\n\
         A reaction wheel's command unit: the line's bytes on standard input, its replies on standard output, and at the end on\n\
         standard error how often each answer came, which diagnostics moved, and what was written.\n\
         \x20 ADDRESS  1 to 255, but not 0xC0 or 0xDB; 0x41 if there is none\n\
         \x20 FRAM     its bytes, a multiple of 256 from 256 to 262144; 65536 if there is none\n\
-        Both are decimal, or hexadecimal after 0x. A PING and its reply:\n\
+        \x20 LIMIT    the most data bytes of a message, 260 to 1028; 1028 if there is none\n\
+        All are decimal, or hexadecimal after 0x. A PING and its reply:\n\
         \x20 printf '\\xc0\\x41\\x11\\x80\\xd8\\x6d\\xc0' | ./run | od -An -tx1z\n",
     );
 }
 
 pub fn usage() {
-    said(b"usage: wheel [ADDRESS [FRAM]]\n");
+    said(b"usage: wheel [ADDRESS [FRAM [LIMIT]]]\n");
 }
 
 pub fn bad_address() {
     said(
-        b"wheel: ADDRESS is a number from 1 to 255, but not 0xC0 or 0xDB; usage: wheel [ADDRESS [FRAM]]\n",
+        b"wheel: ADDRESS is a number from 1 to 255, but not 0xC0 or 0xDB; usage: wheel [ADDRESS [FRAM [LIMIT]]]\n",
     );
 }
 
 pub fn bad_fram() {
-    said(b"wheel: FRAM is a multiple of 256 from 256 to 262144; usage: wheel [ADDRESS [FRAM]]\n");
+    said(
+        b"wheel: FRAM is a multiple of 256 from 256 to 262144; usage: wheel [ADDRESS [FRAM [LIMIT]]]\n",
+    );
+}
+
+pub fn bad_limit() {
+    said(b"wheel: LIMIT is a number from 260 to 1028; usage: wheel [ADDRESS [FRAM [LIMIT]]]\n");
 }
 
 pub fn read_failed(error: i32) {
@@ -70,9 +77,9 @@ fn numbered(name: &[u8], i: usize, value: u64) {
 }
 
 // How often each answer came, by its number.
-fn answers(tally: &[u64; 27]) {
+fn answers(tally: &[u64; 30]) {
     let mut i = 0;
-    while i < 27 {
+    while i < 30 {
         numbered(b"answer ", i, tally[i]);
         i += 1;
     }
@@ -92,7 +99,7 @@ fn diagnostics(values: &[u32; 31]) {
 }
 
 // What is said at the end. A reply has two FENDs, its first byte and its last.
-pub fn ended(tally: &[u64; 27], values: &[u32; 31], bytes: u64, fends: u64) {
+pub fn ended(tally: &[u64; 30], values: &[u32; 31], bytes: u64, fends: u64) {
     answers(tally);
     diagnostics(values);
     line(b"replies written: ", fends / 2);
@@ -100,9 +107,9 @@ pub fn ended(tally: &[u64; 27], values: &[u32; 31], bytes: u64, fends: u64) {
 }
 
 // One more answer of its number.
-pub fn count(tally: &mut [u64; 27], number: u8) {
+pub fn count(tally: &mut [u64; 30], number: u8) {
     let i = number as usize;
-    if i < 27 {
+    if i < 30 {
         tally[i] = std::num::wrapping_add_u64(tally[i], 1);
     }
 }

@@ -59,6 +59,9 @@ enum-told-15 c = search needs
 enum-told-16 : tie.Need-enum-told-16
 enum-told-16 c = search needs
 
+enum-told-17 : tie.Need-enum-told-17
+enum-told-17 c = search needs
+
 returns : tie.Need-returns
 returns c = ap sentOf (sym (c .before .answer .given .1))
 
@@ -113,6 +116,9 @@ returns-17 c = ap sentOf (sym (c .enum-told15 .given .1))
 returns-18 : tie.Need-returns-18
 returns-18 c = ap sentOf (sym (c .enum-told16 .given .1))
 
+returns-19 : tie.Need-returns-19
+returns-19 c = ap sentOf (sym (c .enum-told17 .given .1))
+
 pub sent-of-spec : {M : Type 1} → statement M
 sent-of-spec =
     tie.close
@@ -135,6 +141,7 @@ sent-of-spec =
     enum-told-14
     enum-told-15
     enum-told-16
+    enum-told-17
     returns
     returns-2
     returns-3
@@ -152,4 +159,5 @@ sent-of-spec =
     returns-15
     returns-16
     returns-17
-    returns-18)
+    returns-18
+    returns-19)

@@ -1,7 +1,8 @@
 -- `judging::judge` meets its contract: refused, or received. Assumes nothing.
 use mathlib.Core.Path.{sym, _∙_}
 use native.Mathlib.Omega.{arith}
-use Rattle.judging.proofs.Serving.{a-served-step-fits}
+use Rattle.judging.proofs.Serving.{a-served-step-fits, a-served-step-is-limited}
+use Rattle.carrying.proofs.Limits.{within-both-ends}
 use Rattle.judging.proofs.Ways.{refused-quietly, received-and-judged}
 use borrow.Author.Needs.{needs}
 use Rattle.judging.proofs.judge.Statement.{statement}
@@ -19,8 +20,10 @@ enum-told c = search needs
 received-requires : tie.Need-received-requires
 received-requires c κs =
     let a = c .before .before .before .before .before .args in
-    let fits = a-served-step-fits (a .unit) (a .lengths) (sym (c .before .before .before .step-fit .ensures) ∙ c .before .enum-told .given .1) .message-fits in
-    omega (arith, c .before .before .before .before .before .pre)
+    let served = sym (c .before .before .before .step-fit .ensures) ∙ c .before .enum-told .given .1 in
+    let room = a-served-step-fits (a .unit) (a .lengths) served .message-fits in
+    let most = within-both-ends (a .unit .limit) (a-served-step-is-limited (a .unit) (a .lengths) served) .1 in
+    (omega (arith, most), omega (arith, c .before .before .before .before .before .pre, room))
 
 returns : tie.Need-returns
 returns c =

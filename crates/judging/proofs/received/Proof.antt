@@ -6,8 +6,11 @@ use borrow.Author.Needs.{needs}
 use Rattle.judging.proofs.received.Statement.{statement}
 use Rattle.judging.proofs.received.Tie as tie
 
-cast-receive : tie.Need-cast-receive
-cast-receive c = search needs
+cast-largest : tie.Need-cast-largest
+cast-largest c = search needs
+
+add-largest : tie.Need-add-largest
+add-largest c = search needs
 
 receive-requires : tie.Need-receive-requires
 receive-requires c κs = search needs
@@ -33,7 +36,7 @@ same-length c = search needs
 returns : tie.Need-returns
 unfolding verdictOf
 returns c =
-    let a = c .before .before .before .before .before .before .before .before .before .args in
+    let a = c .before .before .before .before .before .before .before .before .before .before .args in
     heard-as (a .unit) (a .byte) (a .message .now) (c .before .before .before .before .before .receive .result) _ _ _ (c .before .before .before .before .before .receive .ensures) (c .enum-told .given .1) refl
 
 same-length-2 : tie.Need-same-length-2
@@ -42,7 +45,7 @@ same-length-2 c = search needs
 returns-2 : tie.Need-returns-2
 unfolding verdictOf
 returns-2 c =
-    let a = c .before .before .before .before .before .before .before .before .before .args in
+    let a = c .before .before .before .before .before .before .before .before .before .before .args in
     heard-as (a .unit) (a .byte) (a .message .now) (c .before .before .before .before .before .receive .result) _ _ _ (c .before .before .before .before .before .receive .ensures) (c .enum-told2 .given .1) refl
 
 same-length-3 : tie.Need-same-length-3
@@ -51,7 +54,7 @@ same-length-3 c = search needs
 returns-3 : tie.Need-returns-3
 unfolding verdictOf
 returns-3 c =
-    let a = c .before .before .before .before .before .before .before .before .before .args in
+    let a = c .before .before .before .before .before .before .before .before .before .before .args in
     heard-as (a .unit) (a .byte) (a .message .now) (c .before .before .before .before .before .receive .result) _ _ _ (c .before .before .before .before .before .receive .ensures) (c .enum-told3 .given .1) refl
 
 same-length-4 : tie.Need-same-length-4
@@ -60,14 +63,15 @@ same-length-4 c = search needs
 returns-4 : tie.Need-returns-4
 unfolding verdictOf
 returns-4 c =
-    let a = c .before .before .before .before .before .before .before .before .before .before .before .before .args in
+    let a = c .before .before .before .before .before .before .before .before .before .before .before .before .before .args in
     heard-as (a .unit) (a .byte) (a .message .now) (c .before .before .before .before .before .before .before .before .receive .result) _ _ _ (c .before .before .before .before .before .before .before .before .receive .ensures) (c .before .before .before .heard .given .1) (c .run .ensures)
 
 pub received-spec : {M : Type 1} → statement M
 received-spec =
     tie.close
     (tie.spec
-    cast-receive
+    cast-largest
+    add-largest
     receive-requires
     enum-told
     enum-told-2

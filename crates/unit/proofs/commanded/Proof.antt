@@ -10,6 +10,7 @@ use Rattle.blocks.specs.Fram.{kept}
 use Rattle.line.specs.Packing.{messageSize}
 use Rattle.carrying.specs.Ending.{longestData, leaves}
 use Rattle.carrying.specs.Held.{held}
+use Rattle.carrying.proofs.Limits.{within-both-ends}
 use Rattle.command.specs.Command.{commandOf}
 use Rattle.replying.specs.Replies.{said}
 use Rattle.unit.specs.World.{world, heldOf}
@@ -32,6 +33,9 @@ sub-end c = search needs
 shared-slice-read-code : tie.Need-shared-slice-read-code
 shared-slice-read-code c = search needs
 
+cast-carry-out : tie.Need-cast-carry-out
+cast-carry-out c = search needs
+
 sub-carry-out : tie.Need-sub-carry-out
 sub-carry-out c = search needs
 
@@ -51,7 +55,10 @@ part-made-end : tie.Need-part-made-end
 part-made-end c = search needs
 
 carry-out-requires : tie.Need-carry-out-requires
-carry-out-requires c κs = search needs
+carry-out-requires c κs =
+    let p = c .before .before .before .before .before .before .before .before .before .before .before .before .before .before .pre in
+    let limit = within-both-ends (c .before .before .before .before .before .before .before .before .before .before .before .before .before .before .args .unit .limit) (p .5) in
+    (omega (arith, limit .0), omega (arith, limit .1), p .0, p .2, p .1)
 
 slice-aggregate-say : tie.Need-slice-aggregate-say
 slice-aggregate-say c =
@@ -59,9 +66,9 @@ slice-aggregate-say c =
 
 say-requires : tie.Need-say-requires
 say-requires c κs =
-    let p = c .before .before .before .before .before .before .before .before .before .before .before .before .before .before .before .before .before .before .before .before .before .before .before .pre in (
-      the-data-has-room (commandOf longestData firstOfFram _ _ _ _) _ lent _ _ _ (c .before .before .before .before .before .before .before .before .before .carry-out .ensures) refl (c .before .before .before .before .before .before .before .before .before .carry-out .kept .1 .1 .1 .1 .1 .1 .1 .1 .1 .0),
-      (p .5, p .6, p .3, same-len-mid 3 longestData fresh (c .before .before .before .before .before .before .before .before .before .carry-out .last .1 .1 .1 .1 .1 .1 .1 .1 .1 .0) (c .before .before .before .before .before .before .before .before .before .carry-out .kept .1 .1 .1 .1 .1 .1 .1 .1 .1 .0), p .4),
+    let p = c .before .before .before .before .before .before .before .before .before .before .before .before .before .before .before .before .before .before .before .before .before .before .before .before .pre in (
+      the-data-has-room (commandOf _ firstOfFram _ _ _ _) _ lent _ _ _ (c .before .before .before .before .before .before .before .before .before .carry-out .ensures) refl (c .before .before .before .before .before .before .before .before .before .carry-out .kept .1 .1 .1 .1 .1 .1 .1 .1 .1 .0),
+      (p .6, p .7, p .3, same-len-mid 3 longestData fresh (c .before .before .before .before .before .before .before .before .before .carry-out .last .1 .1 .1 .1 .1 .1 .1 .1 .1 .0) (c .before .before .before .before .before .before .before .before .before .carry-out .kept .1 .1 .1 .1 .1 .1 .1 .1 .1 .0), p .4),
     )
 
 same-length : tie.Need-same-length
@@ -79,17 +86,17 @@ same-length-4 c = search needs
 returns : tie.Need-returns
 unfolding commandedOf
 returns c =
-    let a = c .before .before .before .before .before .before .before .before .before .before .before .before .before .before .before .before .before .before .before .before .before .before .before .before .before .before .before .args in
-    let p = c .before .before .before .before .before .before .before .before .before .before .before .before .before .before .before .before .before .before .before .before .before .before .before .before .before .before .before .pre in
+    let a = c .before .before .before .before .before .before .before .before .before .before .before .before .before .before .before .before .before .before .before .before .before .before .before .before .before .before .before .before .args in
+    let p = c .before .before .before .before .before .before .before .before .before .before .before .before .before .before .before .before .before .before .before .before .before .before .before .before .before .before .before .before .pre in
     let u = a .unit in
     let m = a .message .now in
     let w = (world (a .edac .now) (a .fram .now) (a .sums .now) (a .diagnostics .now) m (a .reply .now)) in
-    let size : a .count - 2 - 3 ≡ a .count - 5 = omega (arith, p .5) in
+    let size : a .count - 2 - 3 ≡ a .count - 5 = omega (arith, p .6) in
     the-command-is-answered u w (getD m 0 0) (getD m 1 0) (getD m 2 0) (stretch 3 (a .count - 5) m) fresh lent (omega arith)
-    (commandOf longestData firstOfFram (getD m 2 0 % 32) (a .diagnostics .now) (heldOf u w) (stretch 3 (a .count - 5) m))
+    (commandOf (u .limit) firstOfFram (getD m 2 0 % 32) (a .diagnostics .now) (heldOf u w) (stretch 3 (a .count - 5) m))
     (said (c .before .before .before .say .result) _) _ _ (held (c .before .before .before .before .before .before .before .before .before .before .before .before .before .carry-out .result .mode) _ (kept _ _))
     (c .before .before .before .before .before .before .before .before .before .before .before .before .before .carry-out .ensures
-    ∙ ap (λ (n : ℕ). leaves (commandOf longestData firstOfFram (getD m 2 0 % 32) (a .diagnostics .now) (heldOf u w) (take n (drop 3 m))) lent (heldOf u w)) size)
+    ∙ ap (λ (n : ℕ). leaves (commandOf (u .limit) firstOfFram (getD m 2 0 % 32) (a .diagnostics .now) (heldOf u w) (take n (drop 3 m))) lent (heldOf u w)) size)
     (c .before .before .before .say .ensures)
 
 pub commanded-spec : {M : Type 1} → statement M
@@ -98,6 +105,7 @@ commanded-spec =
     (tie.spec
     sub-end
     shared-slice-read-code
+    cast-carry-out
     sub-carry-out
     part-carry-out-start
     part-carry-out-end

@@ -2,7 +2,9 @@
 use Rattle.unit.proofs.Serving.{set-up-refused, set-up-served}
 use mathlib.Core.Path.{sym, _∙_}
 use Rattle.unit.specs.World.{world, lengthsOf}
-use Rattle.judging.proofs.Serving.{a-served-set-up-fits}
+use Rattle.judging.proofs.Serving.{a-served-set-up-fits, a-served-set-up-is-limited}
+use Rattle.carrying.proofs.Limits.{within-both-ends}
+use native.Mathlib.Omega.{arith}
 use borrow.Author.Needs.{needs}
 use Rattle.unit.proofs.set_up.Statement.{statement}
 use Rattle.unit.proofs.set_up.Tie as tie
@@ -19,13 +21,20 @@ enum-told c = search needs
 compute-sums-requires : tie.Need-compute-sums-requires
 compute-sums-requires c κs =
     let a = c .before .before .before .before .before .before .before .before .before .before .args in
-    a-served-set-up-fits (a .address) (lengthsOf (world (a .edac .now) (a .fram .now) (a .sums .now) (a .diagnostics .now) (a .message .now) (a .reply .now)))
+    a-served-set-up-fits (a .address) (a .limit) (lengthsOf (world (a .edac .now) (a .fram .now) (a .sums .now) (a .diagnostics .now) (a .message .now) (a .reply .now)))
     (sym (c .before .before .before .set-up-fit .ensures) ∙ c .before .enum-told .given .1) .sums-fit
+
+cast-kept : tie.Need-cast-kept
+cast-kept c =
+    let a = c .before .before .before .before .before .before .before .before .before .before .before .before .before .args in
+    let limited = a-served-set-up-is-limited (a .address) (a .limit) (lengthsOf (world (a .edac .now) (a .fram .now) (a .sums .now) (a .diagnostics .now) (a .message .now) (a .reply .now)))
+    (sym (c .before .before .before .before .before .before .set-up-fit .ensures) ∙ c .before .before .before .before .enum-told .given .1) in
+    omega (arith, within-both-ends (a .limit) limited .1)
 
 returns : tie.Need-returns
 returns c =
     let a = c .before .before .before .before .before .before .before .before .before .before .args in
-    set-up-refused (a .address) (world (a .edac .now) (a .fram .now) (a .sums .now) (a .diagnostics .now) (a .message .now) (a .reply .now)) _
+    set-up-refused (a .address) (a .limit) (world (a .edac .now) (a .fram .now) (a .sums .now) (a .diagnostics .now) (a .message .now) (a .reply .now)) _
     (sym (c .before .before .before .set-up-fit .ensures) ∙ c .before .fit .given .1)
 
 same-length : tie.Need-same-length
@@ -34,7 +43,7 @@ same-length c = search needs
 returns-2 : tie.Need-returns-2
 returns-2 c =
     let a = c .before .before .before .before .before .before .before .before .before .before .before .before .before .args in
-    set-up-served (a .address) (world (a .edac .now) (a .fram .now) (a .sums .now) (a .diagnostics .now) (a .message .now) (a .reply .now)) _
+    set-up-served (a .address) (a .limit) (world (a .edac .now) (a .fram .now) (a .sums .now) (a .diagnostics .now) (a .message .now) (a .reply .now)) _
     (sym (c .before .before .before .before .before .before .set-up-fit .ensures) ∙ c .before .before .before .before .enum-told .given .1)
     (c .before .before .compute-sums .ensures)
 
@@ -46,6 +55,7 @@ set-up-spec =
     enum-known-fit
     enum-told
     compute-sums-requires
+    cast-kept
     returns
     same-length
     returns-2)

@@ -2,6 +2,7 @@
 use native.Mathlib.Omega.{arith}
 use Rattle.unit.specs.World.{world}
 use Rattle.unit.proofs.Serving.{guaranteed-by, an-answer-alone, a-drop-is-counted, a-command-is-served}
+use Rattle.carrying.proofs.Limits.{within-both-ends}
 use borrow.Author.Needs.{needs}
 use Rattle.unit.proofs.step.Statement.{statement}
 use Rattle.unit.proofs.step.Tie as tie
@@ -25,7 +26,7 @@ commanded-requires : tie.Need-commanded-requires
 commanded-requires c κs =
     let a = c .before .before .before .before .before .before .before .before .before .before .before .before .before .before .before .before .before .before .before .before .args in
     let g = guaranteed-by (a .unit) (a .byte) (world (a .edac .now) (a .fram .now) (a .sums .now) (a .diagnostics .now) (a .message .now) (a .reply .now)) (c .before .before .before .before .before .before .before .before .before .before .before .before .judge .result) _ (c .before .before .before .before .before .before .before .before .before .before .before .before .judge .ensures) _ (c .before .before .before .before .before .before .before .verdict3 .given .1) in
-    (g .0 .edac-fits, g .0 .sums-fit, g .0 .diagnostics-fit, omega (arith, g .0 .message-fits, c .before .before .before .before .before .before .before .before .before .before .before .before .judge .kept), g .0 .reply-fits, g .1, g .2)
+    (g .0 .edac-fits, g .0 .sums-fit, g .0 .diagnostics-fit, omega (arith, g .0 .message-fits, c .before .before .before .before .before .before .before .before .before .before .before .before .judge .kept), g .0 .reply-fits, g .1, g .2, omega (arith, g .3, within-both-ends (c .before .before .before .before .before .before .before .before .before .before .before .before .judge .result .unit .limit) (g .1) .1))
 
 same-length : tie.Need-same-length
 same-length c = search needs

@@ -7,11 +7,11 @@ use Rattle.wheel.proofs.run.Statement.{statement}
 use Rattle.wheel.proofs.run.Tie as tie
 
 abbrev Inv-loop : tie.InvT-loop
-Inv-loop address edac₀ fram₀ sums₀ diagnostics₀ message₀ reply₀ buffer₀ tally₀ fed₀ flow₀ turns₀ edac fram sums diagnostics message reply buffer tally fed flow turns =
+Inv-loop address limit edac₀ fram₀ sums₀ diagnostics₀ message₀ reply₀ buffer₀ tally₀ fed₀ flow₀ turns₀ edac fram sums diagnostics message reply buffer tally fed flow turns =
     (0 < turns) × (length fram ≡ length fram₀) × (length sums ≡ length sums₀)
 
 abbrev μ-loop : tie.MeasureT-loop
-μ-loop address edac₀ fram₀ sums₀ diagnostics₀ message₀ reply₀ buffer₀ tally₀ fed₀ flow₀ turns₀ edac fram sums diagnostics message reply buffer tally fed flow turns =
+μ-loop address limit edac₀ fram₀ sums₀ diagnostics₀ message₀ reply₀ buffer₀ tally₀ fed₀ flow₀ turns₀ edac fram sums diagnostics message reply buffer tally fed flow turns =
     turns
 
 begun-requires : tie.Need-begun-requires Inv-loop μ-loop
@@ -55,7 +55,7 @@ same-length : tie.Need-same-length Inv-loop μ-loop
 same-length c = c .before .before .before .before .before .before .before .before .loop .inv .1
 
 same-length-2 : tie.Need-same-length-2 Inv-loop μ-loop
-same-length-2 c = c .before .before .before .before .before .before .before .before .loop .inv .2 ∙ c .before .before .before .before .before .before .before .before .before .before .before .before .begun .kept .1 .1 .1 .0
+same-length-2 c = c .before .before .before .before .before .before .before .before .loop .inv .2 ∙ c .before .before .before .before .before .before .before .before .before .before .before .before .begun .kept .1 .1 .1 .1 .0
 
 returns : tie.Need-returns Inv-loop μ-loop
 returns c = tt

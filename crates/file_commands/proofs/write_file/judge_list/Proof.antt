@@ -1,31 +1,36 @@
 -- `file_commands::write_file::judge_list` meets its contract, by one law for each of its tests. Assumes nothing.
+use mathlib.Core.Path.{sym, _∙_}
 use native.Mathlib.Omega.{arith}
 use borrow.Author.Needs.{needs}
-use Rattle.file_commands.proofs.Ways.{a-limit-too-low, a-limit-too-high, an-empty-list, a-list-too-long, a-list-of-some-length}
+use borrow.Author.Tests.{not-true, not-false}
+use Rattle.file_commands.proofs.Ways.{a-limit-of-no-bus, an-empty-list, a-list-too-long, a-list-of-some-length}
 use Rattle.file_commands.proofs.write_file.judge_list.Statement.{statement}
 use Rattle.file_commands.proofs.write_file.judge_list.Tie as tie
 
+is-limit-requires : tie.Need-is-limit-requires
+is-limit-requires c κs = search needs
+
 returns : tie.Need-returns
-returns c = a-limit-too-low (c .before .before .args .limit) (c .before .before .args .list .now) (c .before .before .args .start) (omega arith)
+returns c = a-limit-of-no-bus (c .before .before .before .args .limit) (c .before .before .before .args .list .now) (c .before .before .before .args .start) (sym (c .before .is-limit .ensures) ∙ not-true _ (c .if1 .taken))
 
 returns-2 : tie.Need-returns-2
-returns-2 c = a-limit-too-high (c .before .before .before .args .limit) (c .before .before .before .args .list .now) (c .before .before .before .args .start) (omega arith)
+returns-2 c = an-empty-list (c .before .before .before .before .args .limit) (c .before .before .before .before .args .list .now) (c .before .before .before .before .args .start) (omega arith)
+
+sub-if3 : tie.Need-sub-if3
+sub-if3 c = search needs
 
 returns-3 : tie.Need-returns-3
-returns-3 c = an-empty-list (c .before .before .before .before .args .limit) (c .before .before .before .before .args .list .now) (c .before .before .before .before .args .start) (omega arith)
-
-sub-if4 : tie.Need-sub-if4
-sub-if4 c = search needs
-
-returns-4 : tie.Need-returns-4
-returns-4 c = a-list-too-long (c .before .before .before .before .before .args .limit) (c .before .before .before .before .before .args .list .now) (c .before .before .before .before .before .args .start) (omega arith)
+returns-3 c = a-list-too-long (c .before .before .before .before .before .args .limit) (c .before .before .before .before .before .args .list .now) (c .before .before .before .before .before .args .start) (omega arith)
 
 is-whole-requires : tie.Need-is-whole-requires
 is-whole-requires c κs = search needs
 
-returns-5 : tie.Need-returns-5
-returns-5 c = search (needs, a-list-of-some-length)
+returns-4 : tie.Need-returns-4
+returns-4 c =
+    let limited = sym (c .before .before .before .before .is-limit .ensures) ∙ not-false _ (c .before .before .before .if1 .left) in
+    search (needs, a-list-of-some-length, limited)
 
 pub judge-list-spec : {M : Type 1} → statement M
 judge-list-spec =
-    tie.close (tie.spec returns returns-2 returns-3 sub-if4 returns-4 is-whole-requires returns-5)
+    tie.close
+    (tie.spec is-limit-requires returns returns-2 sub-if3 returns-3 is-whole-requires returns-4)

@@ -9,7 +9,7 @@ abbrev Inv-loop : tie.InvT-loop
 Inv-loop tally i₀ t3 i = Unit {0}
 
 abbrev μ-loop : tie.MeasureT-loop
-μ-loop tally i₀ t3 i = 27 - i
+μ-loop tally i₀ t3 i = 30 - i
 
 loop-holds : tie.Need-loop-holds Inv-loop μ-loop
 loop-holds c = tt
