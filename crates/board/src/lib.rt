@@ -116,16 +116,8 @@ pub extern "C" fn wheel_set_up(
     ensures { λ r. ⌜ returned r (world (now (edac .entry)) (now (fram .entry)) (now (sums .exit)) (now (diagnostics .entry)) (now (message .entry)) (now (reply .entry)))
         ≡ returnedBy (setUpOf address limit (world (now (edac .entry)) (now (fram .entry)) (now (sums .entry)) (now (diagnostics .entry)) (now (message .entry)) (now (reply .entry)))) ⌝ }
 {
-    stepped_out(unit::set_up(
-        address,
-        limit as usize,
-        edac,
-        fram,
-        sums,
-        diagnostics,
-        message,
-        reply,
-    ))
+    let most = limit as usize;
+    stepped_out(unit::set_up(address, most, edac, fram, sums, diagnostics, message, reply))
 }
 
 #[no_mangle]

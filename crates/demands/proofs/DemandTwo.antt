@@ -65,7 +65,7 @@ is-served : (u : Unit) → Serves u → countFit (u .receiver .count) (limitFit 
 is-served u serves = simp (le-leb (u .receiver .count) largestCount (serves .0), serves .1)
 
 module _ (u : Unit) (message : List ℕ) (c : Call) (serves : Serves u) (suits : Suits (u .address) (u .«fram_len») (length message) c) where
-  abbrev got : Reception
+  abbrev pub got : Reception
   got = receiveOf (largestMessage (u .limit)) (u .receiver) (c .byte) message
 
   pub a-call-that-suits-fits : stepFit u (lengthsOf (lentTo message c)) ≡ Fits
@@ -74,7 +74,7 @@ module _ (u : Unit) (message : List ℕ) (c : Call) (serves : Serves u) (suits :
       ap (λ next. lengthsFit (u .address) (framAsSetUp (length (c .lent .fram)) (u .«fram_len»)) (lengthsOf (lentTo message c)) next) (is-served u serves)
       ∙ suits
 
-  served : stepOf u (c .byte) (lentTo message c) ≡ comesTo (withReceiver u (got .receiver)) (got .heard) (lentTo (got .message) c)
+  pub served : stepOf u (c .byte) (lentTo message c) ≡ comesTo (withReceiver u (got .receiver)) (got .heard) (lentTo (got .message) c)
   unfolding stepOf judgeOf receivedOf
   served = simp a-call-that-suits-fits
 

@@ -3,6 +3,7 @@ pub mod DemandOne
 pub mod DemandTwo
 pub mod Orders
 pub mod DemandThree
+pub mod Limits
 pub mod Keeping
 pub mod Storing
 pub mod Doing

@@ -1,3 +1,4 @@
 pub mod Refusing
 pub mod Serving
 pub mod Ways
+pub mod Examples

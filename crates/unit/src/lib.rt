@@ -116,9 +116,10 @@ fn commanded(
     let code = message[CONTROL] % CODES;
     let mode = unit.mode;
     let receiver = unit.receiver;
+    let room = unit.limit as usize;
     let mut made = [0u8; MESSAGE_SIZE];
     let carried = command::carry_out(
-        unit.limit as usize,
+        room,
         FIRST_OF_FRAM,
         code,
         mode,

@@ -33,8 +33,8 @@ sub-end c = search needs
 shared-slice-read-code : tie.Need-shared-slice-read-code
 shared-slice-read-code c = search needs
 
-cast-carry-out : tie.Need-cast-carry-out
-cast-carry-out c = search needs
+cast-room : tie.Need-cast-room
+cast-room c = search needs
 
 sub-carry-out : tie.Need-sub-carry-out
 sub-carry-out c = search needs
@@ -105,7 +105,7 @@ commanded-spec =
     (tie.spec
     sub-end
     shared-slice-read-code
-    cast-carry-out
+    cast-room
     sub-carry-out
     part-carry-out-start
     part-carry-out-end

@@ -1,0 +1,79 @@
+-- 02, T-06 at its edges, each by computation from the definitions. Assumes nothing.
+use mathlib.Core.Path.{_≡_, refl}
+use mathlib.Core.List.{List}
+use Prim.Native.Nat.{ℕ}
+use lib.ListN.{set, replicate}
+use Rattle.crc.specs.Sum.{bitStep, bitSteps, byteStep, sumFrom, sumOf}
+use Rattle.line.specs.declared.receiver.Place.{Place}
+use Rattle.line.specs.declared.receiver.Place.the-variants.{Fresh, Run, Escape, Fault}
+use Rattle.line.specs.declared.receiver.Receiver.{Receiver}
+use Rattle.line.specs.Packing.{messageSize}
+use Rattle.line.specs.Receiver.{opened, receiveOf, insideOf, afterEscapeOf, closedOf, storedOf, countedOf}
+use Rattle.carrying.specs.declared.Mode.the-variants.{Bootloader}
+use Rattle.answer.specs.declared.Answer.the-variants.{Taken, Framing, Runt, Oversize, BadCrc, BadBuffers, BadCount, BadLimit}
+use Rattle.judging.specs.declared.Unit.{Unit}
+use Rattle.judging.specs.declared.Lengths.{Lengths}
+use Rattle.judging.specs.declared.Verdict.{Verdict}
+use Rattle.judging.specs.declared.Verdict.the-variants.{Quiet}
+use Rattle.judging.specs.declared.fitting.Fit.the-variants.{Fits, Unfit}
+use Rattle.judging.specs.Fitting.{lengthsFit, setUpFit, stepFit}
+use Rattle.judging.specs.Judging.{Judging, judging, dropped, largestMessage, runOf, verdictOf, receivedOf}
+
+-- what is lent, with a reply buffer of this length
+abbrev lent : ℕ → Lengths
+lent reply = record { edac = 1536; fram = 256; sums = 1; diagnostics = 31; message = 1033; reply = reply }
+
+abbrev at : Place → ℕ → Receiver
+at place count = record { place = place; count = count }
+
+abbrev unit : ℕ → Receiver → Unit
+unit limit receiver = record { address = 0x41; limit = limit; mode = Bootloader; «fram_len» = 256; receiver = receiver }
+
+-- at 1,028 the largest message is that of 01
+pub the-largest : (largestMessage 1028 ≡ messageSize) × (largestMessage 260 ≡ 265)
+the-largest = (refl, refl)
+
+-- Set-up takes 260 to 1,028, and a number that ends like one of them in 16 bits is another number. 29 comes after 25.
+pub set-ups : (setUpFit 0x41 259 (lent 2068) ≡ Unfit BadLimit) × (setUpFit 0x41 260 (lent 2068) ≡ Fits) × (setUpFit 0x41 1028 (lent 2068) ≡ Fits)
+    × (setUpFit 0x41 1029 (lent 2068) ≡ Unfit BadLimit) × (setUpFit 0x41 0 (lent 2068) ≡ Unfit BadLimit) × (setUpFit 0x41 66564 (lent 2068) ≡ Unfit BadLimit)
+    × (setUpFit 0x41 259 (lent 2067) ≡ Unfit BadBuffers)
+unfolding setUpFit lengthsFit
+set-ups = (refl, refl, refl, refl, refl, refl, refl)
+
+-- So does every byte, with the limit of its record. 26 is above 1,034 under every limit, and comes before 29.
+pub calls : (stepFit (unit 259 opened) (lent 2068) ≡ Unfit BadLimit) × (stepFit (unit 260 opened) (lent 2068) ≡ Fits) × (stepFit (unit 1028 opened) (lent 2068) ≡ Fits)
+    × (stepFit (unit 1029 opened) (lent 2068) ≡ Unfit BadLimit) × (stepFit (unit 260 (at Run 1034)) (lent 2068) ≡ Fits)
+    × (stepFit (unit 260 (at Run 1035)) (lent 2068) ≡ Unfit BadCount) × (stepFit (unit 259 (at Run 1035)) (lent 2068) ≡ Unfit BadCount)
+    × (stepFit (unit 259 (at Run 1034)) (lent 2068) ≡ Unfit BadLimit)
+unfolding stepFit lengthsFit
+calls = (refl, refl, refl, refl, refl, refl, refl, refl)
+
+-- a message buffer of zeros, and one byte received at a limit of 260
+abbrev zeros : List ℕ
+zeros = replicate 300 0
+
+abbrev after : Receiver → ℕ → Judging
+after receiver byte = receivedOf (unit 260 receiver) byte zeros
+
+abbrev shows : Receiver → Verdict → List ℕ → Judging
+shows receiver verdict message = judging (unit 260 receiver) verdict message
+
+-- The 265th byte is stored, the 266th and later ones are not, and the count stops at 266. A higher one that was lent stays.
+pub stored-and-counted : (after (at Run 264) 0x55 ≡ shows (at Run 265) (Quiet Taken) (set zeros 264 0x55)) × (after (at Run 265) 0x55 ≡ shows (at Run 266) (Quiet Taken) zeros)
+    × (after (at Run 266) 0x55 ≡ shows (at Run 266) (Quiet Taken) zeros) × (after (at Run 280) 0x55 ≡ shows (at Run 280) (Quiet Taken) zeros)
+    × (after (at Escape 1034) 0xDC ≡ shows (at Run 1034) (Quiet Taken) zeros)
+unfolding receivedOf receiveOf insideOf afterEscapeOf storedOf countedOf verdictOf
+stored-and-counted = (refl, refl, refl, refl, refl)
+
+-- At the close 266 is oversize, and so is every count from there to 1,034, unless a fault or a FESC makes it framing.
+pub closed : (after (at Run 266) 0xC0 ≡ shows opened (dropped Oversize 2) zeros) × (after (at Run 300) 0xC0 ≡ shows opened (dropped Oversize 2) zeros)
+    × (after (at Run 1034) 0xC0 ≡ shows opened (dropped Oversize 2) zeros) × (after (at Escape 300) 0xC0 ≡ shows opened (dropped Framing 0) zeros)
+    × (after (at Fault 300) 0xC0 ≡ shows opened (dropped Framing 0) zeros) × (after (at Fresh 300) 0xC0 ≡ shows opened (Quiet Taken) zeros)
+    × (after (at Run 4) 0xC0 ≡ shows opened (dropped Runt 1) zeros)
+unfolding receivedOf receiveOf closedOf verdictOf runOf
+closed = (refl, refl, refl, refl, refl, refl, refl)
+
+-- 265 bytes are a message, which is judged by its CRC.
+pub judged-by-its-CRC : after (at Run 265) 0xC0 ≡ shows opened (dropped BadCrc 3) zeros
+unfolding receivedOf receiveOf closedOf verdictOf runOf sumOf sumFrom byteStep bitSteps bitStep
+judged-by-its-CRC = refl
