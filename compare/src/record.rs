@@ -25,6 +25,8 @@ pub struct Record {
     pub address: u8,
     pub mode: Mode,
     pub fram_len: usize,
+    /// The most data bytes of a message, as it was set up (02, T-06).
+    pub limit: u16,
     pub place: Place,
     pub count: usize,
 }
@@ -34,6 +36,7 @@ pub const REFUSED: Record = Record {
     address: 0,
     mode: Mode::Bootloader,
     fram_len: 0,
+    limit: 0,
     place: Place::Fresh,
     count: 0,
 };

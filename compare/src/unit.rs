@@ -10,6 +10,7 @@ use crate::Part;
 struct WheelUnit {
     fram_len: u64,
     count: u64,
+    limit: u16,
     address: u8,
     mode: u8,
     place: u8,
@@ -31,6 +32,7 @@ struct WheelPacked {
 extern "C" {
     fn wheel_set_up(
         address: u8,
+        limit: u64,
         edac: *const u8,
         edac_len: usize,
         fram: *const u8,
@@ -85,6 +87,7 @@ impl From<Record> for WheelUnit {
         WheelUnit {
             fram_len: record.fram_len as u64,
             count: record.count as u64,
+            limit: record.limit,
             address: record.address,
             mode: match record.mode {
                 Mode::Bootloader => 0,
@@ -111,6 +114,7 @@ impl From<WheelUnit> for Record {
                 number => panic!("the face handed back mode {number}"),
             },
             fram_len: length(unit.fram_len),
+            limit: unit.limit,
             place: match unit.place {
                 0 => Place::Fresh,
                 1 => Place::Run,
@@ -140,8 +144,10 @@ impl From<WheelStepped> for Stepped {
 }
 
 /// Set-up, which changes nothing that is lent but the sums.
+#[allow(clippy::too_many_arguments)]
 pub fn set_up(
     address: u8,
+    limit: u64,
     edac: &[u8],
     fram: &[u8],
     sums: &mut [u16],
@@ -152,6 +158,7 @@ pub fn set_up(
     let stepped = unsafe {
         wheel_set_up(
             address,
+            limit,
             edac.as_ptr(),
             edac.len(),
             fram.as_ptr(),
@@ -231,9 +238,10 @@ pub fn store_list(limit: u64, edac: &mut [u8], list: &[u8]) -> u8 {
 pub struct Proved;
 
 impl Wheel for Proved {
-    fn set_up(&self, address: u8, lent: Lent) -> Stepped {
+    fn set_up(&self, address: u8, limit: u64, lent: Lent) -> Stepped {
         set_up(
             address,
+            limit,
             lent.edac,
             lent.fram,
             lent.sums,

@@ -23,7 +23,7 @@ pub struct Stepped {
 }
 
 pub trait Wheel {
-    fn set_up(&self, address: u8, lent: Lent) -> Stepped;
+    fn set_up(&self, address: u8, limit: u64, lent: Lent) -> Stepped;
     fn step(&self, record: Record, byte: u8, lent: Lent) -> Stepped;
     /// The answer and the length of the packed message.
     fn pack(&self, message: &[u8], reply: &mut [u8]) -> (u8, usize);
@@ -42,9 +42,15 @@ macro_rules! wheel_of_module {
         pub struct $name;
 
         impl $crate::wheel::Wheel for $name {
-            fn set_up(&self, address: u8, lent: $crate::wheel::Lent) -> $crate::wheel::Stepped {
+            fn set_up(
+                &self,
+                address: u8,
+                limit: u64,
+                lent: $crate::wheel::Lent,
+            ) -> $crate::wheel::Stepped {
                 let (record, answer) = $($module)::+::set_up(
                     address,
+                    limit,
                     lent.edac,
                     lent.fram,
                     lent.sums,

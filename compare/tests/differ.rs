@@ -10,7 +10,7 @@ use std::cell::RefCell;
 fn every_answer_and_every_command_comes_often() {
     let mut tally = Tally::default();
     sessions(&Second, &Second, 1, 3_000_000, &mut tally).unwrap();
-    for answer in (0..=10).chain(20..=26) {
+    for answer in (0..=10).chain(20..=26).chain([29]) {
         assert!(tally.answers.of(answer) >= 100, "{answer}:\n{tally}");
     }
     for (code, times) in tally.commands.iter().enumerate() {
@@ -29,7 +29,7 @@ fn every_answer_and_every_command_comes_often() {
             assert_eq!(times.of(answer) > 0, comes, "{code:#04x}:\n{tally}");
         }
     }
-    for answer in [0].into_iter().chain(20..=25) {
+    for answer in [0, 29].into_iter().chain(20..=25) {
         assert!(tally.set_ups.of(answer) >= 5, "{answer}:\n{tally}");
     }
     for answer in [0, 25, 35] {
@@ -47,19 +47,20 @@ fn every_answer_and_every_command_comes_often() {
             assert!(times.of(answer) >= 20, "{answer}:\n{tally}");
         }
     }
-    // Every read-only row is written over and beside and shown in every way, and every file written.
-    let missed = tally.rows.missed();
+    // Every read-only row is written over and beside and shown in every way, every file written, and every end of the limits met.
+    let missed = tally.missed();
     assert!(missed.is_empty(), "{missed:#?}\n{tally}");
 }
 
 #[test]
 fn a_run_that_is_too_short_says_what_it_missed() {
-    // 39 rows in nine ways, but for the two ways by file of the one that is no file, and 256 files.
-    let all = 39 * 9 - 2 + 256;
+    // 39 rows in nine ways, but for the two ways by file of the one that is no file, and 256 files; four limits, and a count
+    // beyond the limit in each of four places.
+    let all = 39 * 9 - 2 + 256 + 4 + 4;
     let mut tally = Tally::default();
-    assert_eq!(tally.rows.missed().len(), all);
+    assert_eq!(tally.missed().len(), all);
     session(&Second, &Second, 1, &mut tally).unwrap();
-    let missed = tally.rows.missed().len();
+    let missed = tally.missed().len();
     assert!(0 < missed && missed < all, "{missed}");
 }
 
@@ -70,8 +71,8 @@ struct Noting {
 }
 
 impl Wheel for Noting {
-    fn set_up(&self, address: u8, lent: Lent) -> Stepped {
-        Second.set_up(address, lent)
+    fn set_up(&self, address: u8, limit: u64, lent: Lent) -> Stepped {
+        Second.set_up(address, limit, lent)
     }
 
     fn step(&self, record: Record, byte: u8, lent: Lent) -> Stepped {

@@ -41,8 +41,8 @@ fn each_mistake_is_caught() {
     assert!(caught >= 20);
 }
 
-/// Mistakes in what is asked without a unit, where the command is right.
-const AT_ODDS: [&str; 8] = [
+/// Mistakes in what is asked without a unit, where the command is right, and the other way round.
+const AT_ODDS: [&str; 10] = [
     "An empty list is judged fit",
     "A list that ends inside a structure is judged fit",
     "A list that ends one byte before the end of file 0 is judged fit",
@@ -51,6 +51,8 @@ const AT_ODDS: [&str; 8] = [
     "Storing an unfit list says that it is stored",
     "Storing without a unit can write read-only bytes",
     "Storing without a unit leaves the mode",
+    "WRITE FILE goes by 260, whatever the limit",
+    "The limit of every unit is 1,028",
 ];
 
 /// A wheel that has one is caught even where it is held against itself (02, T-11).

@@ -1,7 +1,7 @@
 //! `differ MEGABYTES [SEED]` or `differ forever`: holds the proved unit and the second program against each other over seeded
 //! streams of line bytes.
 //! Sessions have the seeds SEED, SEED + 1 and so on, so `differ 1 SEED` with a printed seed has a difference again at once.
-//! A run of 10 megabytes or more also fails where a read-only row or a file was not met in every way that there is.
+//! A run of 10 megabytes or more also fails where a read-only row, a file or a limit was not met in every way that there is.
 
 use compare::differ::{session, Tally};
 use compare::wheel::{Second, Wheel};
@@ -11,7 +11,7 @@ use std::time::{Instant, SystemTime, UNIX_EPOCH};
 const USAGE: &str = "differ MEGABYTES [SEED], or differ forever";
 const MEGABYTE: u64 = 1_000_000;
 
-/// A run of so many bytes has time for every row and file; a shorter one looks at a seed again.
+/// A run of so many bytes has time for all that a tally asks for; a shorter one looks at a seed again.
 const LONG: u64 = 10 * MEGABYTE;
 
 fn first() -> (&'static str, &'static dyn Wheel) {
@@ -70,7 +70,7 @@ fn compared(wheel: &dyn Wheel, bytes: u64, seed: u64) -> ExitCode {
         }
     }
     println!("{tally}");
-    let missed = tally.rows.missed();
+    let missed = tally.missed();
     if bytes >= LONG && !missed.is_empty() {
         println!("NOT REACHED:\n{}", missed.join("\n"));
         return ExitCode::FAILURE;

@@ -7,25 +7,23 @@ use crate::Seeded;
 const FIRST: i64 = 0x2004_0000;
 const APPLICATION: [u8; 4] = [0x00, 0x00, 0x05, 0x20];
 
-/// The most data that a sound message has.
-const MOST: usize = 1_028;
-
-/// A code and its data for a unit with this record.
+/// A code and its data for a unit with this record, whose limit is the most data that a sound message to it has.
 pub fn command(seeded: &mut Seeded, record: &Record) -> (u8, Vec<u8>) {
+    let limit = usize::from(record.limit);
     let code = code(seeded, record.mode);
     let mut data = match code {
-        0x00 => any_data(seeded),
+        0x00 => any_data(seeded, limit),
         0x01 => init(seeded, record.mode),
-        0x02 => peek(seeded, record.fram_len),
-        0x03 => poke(seeded, record.fram_len),
-        0x04 => diagnostic(seeded),
+        0x02 => peek(seeded, limit, record.fram_len),
+        0x03 => poke(seeded, limit, record.fram_len),
+        0x04 => diagnostic(seeded, limit),
         0x06 => crc(seeded, record.fram_len),
-        0x07 => read_file(seeded),
-        0x08 => write_file(seeded),
-        0x09 => read_edac(seeded),
-        0x0A => write_edac(seeded),
-        0x0B => gather(seeded),
-        _ => any_data(seeded),
+        0x07 => read_file(seeded, limit),
+        0x08 => write_file(seeded, limit),
+        0x09 => read_edac(seeded, limit),
+        0x0A => write_edac(seeded, limit),
+        0x0B => gather(seeded, limit),
+        _ => any_data(seeded, limit),
     };
     // A data field that is one byte too short or too long, now and then.
     match seeded.below(20) {
@@ -33,7 +31,7 @@ pub fn command(seeded: &mut Seeded, record: &Record) -> (u8, Vec<u8>) {
         1 => data.push(seeded.number() as u8),
         _ => {}
     }
-    data.truncate(MOST);
+    data.truncate(limit);
     (code, data)
 }
 
@@ -72,10 +70,10 @@ fn length(seeded: &mut Seeded, most: usize) -> usize {
     }
 }
 
-fn any_data(seeded: &mut Seeded) -> Vec<u8> {
+fn any_data(seeded: &mut Seeded, limit: usize) -> Vec<u8> {
     let length = match seeded.below(3) {
         0 => 0,
-        _ => length(seeded, MOST),
+        _ => length(seeded, limit),
     };
     bytes(seeded, length)
 }
@@ -133,10 +131,12 @@ fn address(offset: i64) -> [u8; 4] {
     ((FIRST + offset) as u32).to_le_bytes()
 }
 
-fn peek(seeded: &mut Seeded, fram_len: usize) -> Vec<u8> {
+fn peek(seeded: &mut Seeded, limit: usize, fram_len: usize) -> Vec<u8> {
+    // The reply has the address too.
+    let most = limit as i64 - 4;
     if seeded.one_in(12) {
-        let start = seeded.below(1 + fram_len.saturating_sub(1_024));
-        let count = 1_023 + seeded.below(3) as u16;
+        let start = seeded.below(1 + fram_len.saturating_sub(most as usize));
+        let count = (most - 1) as u16 + seeded.below(3) as u16;
         return [&address(start as i64)[..], &count.to_le_bytes()].concat();
     }
     let (start, count) = fram_range(seeded, fram_len);
@@ -145,19 +145,20 @@ fn peek(seeded: &mut Seeded, fram_len: usize) -> Vec<u8> {
         data.push(count.min(256) as u8);
     } else {
         let count = match seeded.below(8) {
-            0 => seeded.pick(&[0, 1, 255, 256, 1_023, 1_024, 1_025, 1_280, 65_535]),
-            _ => count.clamp(0, 1_026),
+            0 => seeded.pick(&[0, 1, 255, 256, most, most + 1, 1_024, 1_025, 1_280, 65_535]),
+            _ => count.clamp(0, most + 2),
         };
         data.extend((count as u16).to_le_bytes());
     }
     data
 }
 
-fn poke(seeded: &mut Seeded, fram_len: usize) -> Vec<u8> {
+fn poke(seeded: &mut Seeded, limit: usize, fram_len: usize) -> Vec<u8> {
     let (start, count) = fram_range(seeded, fram_len);
+    let most = limit as i64 - 4;
     let count = match seeded.below(16) {
-        0 => seeded.pick(&[0, 1, 256, 1_023, 1_024]),
-        _ => count.clamp(1, 1_024),
+        0 => seeded.pick(&[0, 1, 256, most - 1, most]),
+        _ => count.clamp(1, most),
     };
     let stored = bytes(seeded, count as usize);
     [&address(start)[..], &stored].concat()
@@ -174,16 +175,18 @@ fn crc(seeded: &mut Seeded, fram_len: usize) -> Vec<u8> {
     [start, end].concat()
 }
 
-fn diagnostic(seeded: &mut Seeded) -> Vec<u8> {
+fn diagnostic(seeded: &mut Seeded, limit: usize) -> Vec<u8> {
+    // Five bytes of the reply for each channel.
+    let most = limit / 5;
     let length = match seeded.below(6) {
-        0 => 204 + seeded.below(3),
-        _ => length(seeded, 205),
+        0 => most - 1 + seeded.below(3),
+        _ => length(seeded, most),
     };
     let mut channels: Vec<u8> = (0..length).map(|_| seeded.below(31) as u8).collect();
     if seeded.one_in(8) && length > 0 {
         channels[seeded.below(length)] = seeded.pick(&[0x1F, 0x20, 0x80, 0xFF]);
     }
-    if seeded.one_in(4) && length <= 201 {
+    if seeded.one_in(4) && length + 4 <= most {
         channels.extend([0x07, 0x08, 0x09, 0x0A]);
     }
     channels
@@ -206,8 +209,8 @@ fn file_of(row: Row) -> Option<u8> {
 }
 
 /// Files whose structures fill a data field to its edge.
-fn filling(seeded: &mut Seeded) -> Vec<u8> {
-    let size = MOST + seeded.below(9) - 5;
+fn filling(seeded: &mut Seeded, limit: usize) -> Vec<u8> {
+    let size = limit + seeded.below(9) - 5;
     let zeros = match seeded.below(3) {
         0 => size / 6,
         1 => 0,
@@ -226,20 +229,20 @@ fn files_up_to(seeded: &mut Seeded, size: usize, zeros: usize) -> Vec<u8> {
     files
 }
 
-fn read_file(seeded: &mut Seeded) -> Vec<u8> {
+fn read_file(seeded: &mut Seeded, limit: usize) -> Vec<u8> {
     if seeded.one_in(4) {
-        return filling(seeded);
+        return filling(seeded, limit);
     }
     let length = match seeded.below(12) {
         0 => 0,
-        _ => length(seeded, 206),
+        _ => length(seeded, limit / 5 + 1),
     };
     (0..length).map(|_| file(seeded)).collect()
 }
 
-pub fn write_file(seeded: &mut Seeded) -> Vec<u8> {
+pub fn write_file(seeded: &mut Seeded, limit: usize) -> Vec<u8> {
     let files = match seeded.below(10) {
-        0 => filling(seeded),
+        0 => filling(seeded, limit),
         _ => {
             let length = seeded.below(9);
             (0..length).map(|_| file(seeded)).collect()
@@ -327,21 +330,25 @@ fn row_range(seeded: &mut Seeded, row: Row) -> (u16, usize) {
     (start as u16, end - start)
 }
 
-/// An EDAC range: anywhere, about a read-only row, about the end, about the mode's byte, or as 01's table of edges has it.
-fn edac_range(seeded: &mut Seeded) -> (u16, usize) {
+/// An EDAC range: anywhere, about a read-only row, about the end, about the mode's byte, or as 01's table of edges has it, by
+/// the limit.
+fn edac_range(seeded: &mut Seeded, limit: usize) -> (u16, usize) {
+    // The most bytes that READ EDAC shows, and one range of GATHER.
+    let (read, gathered) = (limit - 2, limit - 4);
     if seeded.one_in(5) {
-        return seeded.pick(&[
-            (510, 1_026),
-            (511, 1_026),
-            (0, 1_026),
-            (0, 1_027),
-            (512, 1_024),
-            (513, 1_024),
-            (0, 1_025),
+        let (start, count) = seeded.pick(&[
+            (1_536 - read, read),
+            (1_537 - read, read),
+            (0, read),
+            (0, read + 1),
+            (1_536 - gathered, gathered),
+            (1_537 - gathered, gathered),
+            (0, gathered + 1),
             (1_535, 1),
             (1_535, 2),
             (1_536, 1),
         ]);
+        return (start as u16, count);
     }
     if seeded.one_in(5) {
         let row = seeded.pick(&ROWS);
@@ -356,16 +363,16 @@ fn edac_range(seeded: &mut Seeded) -> (u16, usize) {
         _ => seeded.below(1_524),
     };
     let count = match seeded.below(12) {
-        0 => seeded.pick(&[0, 255, 256, 257, 1_022, 1_023, 1_024]),
-        1 => 1_024 + seeded.below(5),
+        0 => seeded.pick(&[0, 255, 256, 257, gathered - 2, gathered - 1, gathered]),
+        1 => gathered + seeded.below(5),
         2 | 3 => (1_535 + seeded.below(3)).saturating_sub(start),
         _ => 1 + seeded.below(12),
     };
     (start as u16, count)
 }
 
-fn read_edac(seeded: &mut Seeded) -> Vec<u8> {
-    let (start, count) = edac_range(seeded);
+fn read_edac(seeded: &mut Seeded, limit: usize) -> Vec<u8> {
+    let (start, count) = edac_range(seeded, limit);
     let mut data = start.to_le_bytes().to_vec();
     if seeded.one_in(3) {
         data.push(count.min(256) as u8);
@@ -375,17 +382,17 @@ fn read_edac(seeded: &mut Seeded) -> Vec<u8> {
     data
 }
 
-fn write_edac(seeded: &mut Seeded) -> Vec<u8> {
-    let (start, count) = edac_range(seeded);
-    let stored = bytes(seeded, count.min(1_026));
+fn write_edac(seeded: &mut Seeded, limit: usize) -> Vec<u8> {
+    let (start, count) = edac_range(seeded, limit);
+    let stored = bytes(seeded, count.min(limit - 2));
     [&start.to_le_bytes()[..], &stored].concat()
 }
 
 /// Ranges of which the last may be chosen so that the reply just fits, or just does not.
-fn gather(seeded: &mut Seeded) -> Vec<u8> {
-    let (mut data, mut left) = (Vec::new(), MOST);
+fn gather(seeded: &mut Seeded, limit: usize) -> Vec<u8> {
+    let (mut data, mut left) = (Vec::new(), limit);
     for _ in 0..seeded.pick(&[0, 1, 1, 2, 3]) {
-        let (start, count) = edac_range(seeded);
+        let (start, count) = edac_range(seeded, limit);
         data.extend(start.to_le_bytes());
         data.extend((count as u16).to_le_bytes());
         left = left.saturating_sub(4 + count);

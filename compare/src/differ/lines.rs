@@ -56,9 +56,9 @@ pub fn spoiled(seeded: &mut Seeded, record: &Record) -> Vec<u8> {
         1 => escaped(&sum_reversed(sound)),
         2 => escaped(&for_another(seeded, sound)),
         3 => escaped(&cut(seeded, sound)),
-        4 => escaped(&stretched(seeded, sound)),
+        4 => escaped(&stretched(seeded, record, sound)),
         5 => torn(seeded, escaped(&sound)),
-        6 => torn_when_too_long(seeded),
+        6 => torn_when_too_long(seeded, record),
         7 => parted(seeded, escaped(&sound)),
         _ => noise(seeded),
     }
@@ -104,9 +104,12 @@ fn cut(seeded: &mut Seeded, mut message: Vec<u8>) -> Vec<u8> {
     message
 }
 
-/// Longer than a message may be, or just as long, with a right CRC.
-fn stretched(seeded: &mut Seeded, mut message: Vec<u8>) -> Vec<u8> {
-    let length = seeded.pick(&[1_032, 1_033, 1_033, 1_034, 1_034, 1_035, 1_036, 1_300]);
+/// Longer than a message to this unit may be, or just as long, with a right CRC; or as long as on a bus with the highest limit.
+fn stretched(seeded: &mut Seeded, record: &Record, mut message: Vec<u8>) -> Vec<u8> {
+    let length = match seeded.below(4) {
+        0 => seeded.pick(&[1_033, 1_034, 1_300]),
+        _ => usize::from(record.limit) + seeded.pick(&[4, 5, 5, 6, 6, 7, 8]),
+    };
     message.resize(length - 2, seeded.number() as u8);
     summed(message)
 }
@@ -128,8 +131,8 @@ fn torn(seeded: &mut Seeded, mut line: Vec<u8>) -> Vec<u8> {
 }
 
 /// A run past the longest message that goes on with escapes, right or wrong.
-fn torn_when_too_long(seeded: &mut Seeded) -> Vec<u8> {
-    let length = 1_031 + seeded.below(6);
+fn torn_when_too_long(seeded: &mut Seeded, record: &Record) -> Vec<u8> {
+    let length = usize::from(record.limit) + 3 + seeded.below(6);
     let mut line = vec![seeded.number() as u8 & 0x3F; length];
     for _ in 0..seeded.below(3) {
         line.extend([FESC, seeded.pick(&[0xDC, 0xDD, 0xDC, 0xDD, 0x00])]);

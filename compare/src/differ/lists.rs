@@ -3,22 +3,23 @@
 
 use super::pair::Pair;
 use super::play::Played;
-use super::{commands, lines};
+use super::{commands, limits, lines};
 use crate::record::Mode;
 use crate::Seeded;
 
 const FEND: u8 = 0xC0;
 const WRITE_FILE: u8 = 0x08;
 
-/// The limit of every unit.
-const LIMIT: u64 = 1_028;
+/// The limits that a unit can have.
+const LEAST: u64 = limits::LEAST as u64;
+const MOST: u64 = limits::MOST as u64;
 
 /// The length of EDAC memory.
 const EDAC: usize = 1_536;
 
 /// A list that is judged and stored, and altered in between now and then: it is stored as it then is.
 pub fn asked(pair: &mut Pair, seeded: &mut Seeded) -> Played {
-    let limit = limit(seeded);
+    let limit = limit(seeded, pair.record.limit);
     let mut list = list(seeded, limit);
     pair.judge_list(limit, &list)?;
     if seeded.one_in(3) {
@@ -42,16 +43,18 @@ pub fn asked(pair: &mut Pair, seeded: &mut Seeded) -> Played {
     Ok(())
 }
 
-/// A list that is judged and stored, and sent with memory as it was before. The command must be done exactly where the list
-/// is fit, and leave in memory what storing left. A list that no message can carry is an oversize run, so not done either.
+/// A list that is judged and stored by the unit's limit, and sent with memory as it was before. The command must be done
+/// exactly where the list is fit, and leave in memory what storing left. A list that no message can carry is an oversize run,
+/// so not done either.
 pub fn sent(pair: &mut Pair, seeded: &mut Seeded) -> Played {
     // Closes what is open, which may leave the unit in either mode.
     pair.byte(FEND)?;
     pair.record.mode = Mode::Application;
-    let list = list(seeded, LIMIT);
-    let fit = pair.judge_list(LIMIT, &list)?;
+    let limit = pair.record.limit.into();
+    let list = list(seeded, limit);
+    let fit = pair.judge_list(limit, &list)?;
     let held = pair.edac();
-    pair.store_list(LIMIT, EDAC, &list)?;
+    pair.store_list(limit, EDAC, &list)?;
     let stored = pair.edac();
     pair.alter(|lent| lent.edac.copy_from_slice(&held));
     let message = lines::message_of(seeded, &pair.record, WRITE_FILE, &list);
@@ -60,7 +63,9 @@ pub fn sent(pair: &mut Pair, seeded: &mut Seeded) -> Played {
     let answer = pair.byte(FEND)?;
     pair.tally.sent.add(answer);
     if (answer == done) != fit {
-        return Err(format!("{list:x?} judged {fit}, answered {answer}"));
+        return Err(format!(
+            "{list:x?} judged {fit}, answered {answer}, limit {limit}"
+        ));
     }
     if pair.edac() != stored {
         return Err(format!("{list:x?} stored otherwise than sent"));
@@ -68,11 +73,13 @@ pub fn sent(pair: &mut Pair, seeded: &mut Seeded) -> Played {
     Ok(())
 }
 
-/// Mostly that of every unit, and the ends of those that there are, from either side. Some are right in their low bits only.
-fn limit(seeded: &mut Seeded) -> u64 {
+/// Mostly the unit's or the highest, and the ends of those that there are, from either side. Some are right in their low bits
+/// only.
+fn limit(seeded: &mut Seeded, own: u16) -> u64 {
     match seeded.below(8) {
-        0..=3 => LIMIT,
-        4 => seeded.pick(&[259, 260, 1_029]),
+        0 | 1 => own.into(),
+        2 | 3 => MOST,
+        4 => seeded.pick(&[259, LEAST, 1_029]),
         5 => seeded.pick(&[
             0,
             1,
@@ -84,7 +91,7 @@ fn limit(seeded: &mut Seeded) -> u64 {
             1 << 63 | 1_028,
             u64::MAX,
         ]),
-        6 => 260 + seeded.below(769) as u64,
+        6 => LEAST + seeded.below(769) as u64,
         _ => seeded.number() >> seeded.below(64),
     }
 }
@@ -100,7 +107,7 @@ fn list(seeded: &mut Seeded, limit: u64) -> Vec<u8> {
             let length = length(seeded, limit);
             commands::whole_list(seeded, length)
         }
-        _ => commands::write_file(seeded),
+        _ => commands::write_file(seeded, limit.clamp(LEAST, MOST) as usize),
     };
     if seeded.one_in(8) {
         alter(seeded, &mut list);
@@ -108,11 +115,11 @@ fn list(seeded: &mut Seeded, limit: u64) -> Vec<u8> {
     list
 }
 
-/// As long as the limit, or one more or less; the same of every unit's limit; or any.
+/// As long as the limit, or one more or less; the same of the highest; or any.
 fn length(seeded: &mut Seeded, limit: u64) -> usize {
     let about = match seeded.below(4) {
         0 | 1 => limit.min(1_100) as usize,
-        2 => LIMIT as usize,
+        2 => MOST as usize,
         _ => 1 + seeded.below(1_200),
     };
     (about + seeded.below(3)).saturating_sub(1)

@@ -1,11 +1,12 @@
 //! Two wheels side by side over seeded streams of line bytes: after every byte the answer, the record and the length sent
 //! agree, and after every FEND and every refusal every lent buffer whole, with the cells beyond what was lent.
 //!
-//! A session is a unit's life from its seed alone: `play` chooses what happens, `commands` and `lines` make the bytes, `lists`
-//! asks about lists of files and sends them, `pair` feeds both wheels and holds them against each other, `tally` and `rows`
-//! keep what was reached.
+//! A session is a unit's life from its seed alone: `play` chooses what happens, `commands` and `lines` make the bytes, `limits`
+//! hands in limits, `lists` asks about lists of files and sends them, `pair` feeds both wheels and holds them against each other,
+//! `tally`, `rows` and `limits` keep what was reached.
 
 mod commands;
+mod limits;
 mod lines;
 mod lists;
 mod pair;

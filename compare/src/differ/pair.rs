@@ -114,6 +114,9 @@ impl<'a> Pair<'a> {
             same_buffers(left, right, call)?;
         }
         self.tally.byte(one.answer, code);
+        if one.answer < 20 {
+            self.tally.limits.byte(&record, byte);
+        }
         if let (1 | 2, Some(held)) = (one.answer, held) {
             let data = &left.message[3..record.count - 2];
             self.tally.rows.done(code, data, &held);
@@ -130,12 +133,18 @@ impl<'a> Pair<'a> {
         Ok(())
     }
 
-    pub fn set_up(&mut self, address: u8) -> Result<u8, String> {
+    pub fn set_up(&mut self, address: u8, limit: u64) -> Result<u8, String> {
         let lengths = self.lengths;
         let [left, right] = &mut self.sides;
-        let call = || format!("set-up of {address:#04x}, {lengths:?}");
-        let one = returned(|| self.first.set_up(address, lent(left, &lengths)), call)?;
-        let two = returned(|| self.second.set_up(address, lent(right, &lengths)), call)?;
+        let call = || format!("set-up of {address:#04x}, limit {limit}, {lengths:?}");
+        let one = returned(
+            || self.first.set_up(address, limit, lent(left, &lengths)),
+            call,
+        )?;
+        let two = returned(
+            || self.second.set_up(address, limit, lent(right, &lengths)),
+            call,
+        )?;
         agree(one, two, call)?;
         same_buffers(left, right, call)?;
         self.tally.set_ups.add(one.answer);

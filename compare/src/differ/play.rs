@@ -1,8 +1,8 @@
-//! A session: a unit is set up, and then messages, noise, callers who alter what they lend or lend it wrongly, and callers who
-//! ask about lists of files.
+//! A session: a unit is set up, with one limit or another, and then messages, noise, callers who alter what they lend or lend it
+//! wrongly, and callers who ask about lists of files.
 
 use super::pair::{Lengths, Pair, LARGEST};
-use super::{commands, lines, lists};
+use super::{commands, limits, lines, lists};
 use crate::record::{Mode, Place, Record};
 use crate::second::read_only::ROWS;
 use crate::{Part, Seeded};
@@ -34,7 +34,7 @@ pub fn play(pair: &mut Pair, seeded: &mut Seeded) -> Played {
     }
     let bytes = bytes_with(pair.lengths.fram);
     while pair.offset < bytes {
-        match seeded.below(70) {
+        match seeded.below(72) {
             0..=28 => sound_run(pair, seeded)?,
             29..=31 => read_only_row(pair, seeded)?,
             32..=35 => repeated(pair, seeded)?,
@@ -48,24 +48,27 @@ pub fn play(pair: &mut Pair, seeded: &mut Seeded) -> Played {
             62 => packing(pair, seeded)?,
             63 => joining(pair, seeded)?,
             64..=67 => lists::asked(pair, seeded)?,
-            _ => lists::sent(pair, seeded)?,
+            68..=69 => lists::sent(pair, seeded)?,
+            70 => limits::another(pair, seeded)?,
+            _ => limits::wrong(pair, seeded)?,
         }
     }
     Ok(())
 }
 
-/// Any address that a unit may have.
+/// Any address and any limit that a unit may have.
 fn set_up(pair: &mut Pair, seeded: &mut Seeded) -> Played {
     let address = match seeded.below(3) {
         0 => seeded.pick(&[0x01, 0xC1, 0xBF, 0xDA, 0xDC, 0xDD, 0xFF]),
         1 => seeded.number() as u8,
         _ => 0x41,
     };
-    pair.set_up(if matches!(address, 0x00 | FEND | FESC) {
+    let address = if matches!(address, 0x00 | FEND | FESC) {
         0x41
     } else {
         address
-    })?;
+    };
+    pair.set_up(address, limits::any(seeded).into())?;
     Ok(())
 }
 
@@ -76,7 +79,7 @@ fn one_block_too_many(pair: &mut Pair) -> Played {
     pair.lengths.sums += 1;
     pair.record.fram_len += 256;
     pair.byte(FEND)?;
-    pair.set_up(record.address)?;
+    pair.set_up(record.address, record.limit.into())?;
     (pair.lengths, pair.record) = (lengths, record);
     Ok(())
 }
@@ -161,9 +164,13 @@ fn disturbed(pair: &mut Pair, seeded: &mut Seeded) -> Played {
     }
 }
 
-/// A message that stands in the lent buffer without having been received, and a record that says it was.
+/// A message that stands in the lent buffer without having been received, and a record that says it was. Some are sound but for
+/// being longer than the limit allows.
 fn planted(pair: &mut Pair, seeded: &mut Seeded) -> Played {
-    let message = lines::message(seeded, &pair.record);
+    let message = match seeded.below(8) {
+        0 => limits::long_ping(seeded, &pair.record),
+        _ => lines::message(seeded, &pair.record),
+    };
     pair.alter(|lent| lent.message[..message.len()].copy_from_slice(&message));
     pair.record.place = match seeded.below(16) {
         0 => Place::Fresh,
@@ -221,15 +228,22 @@ fn altered_counts(pair: &mut Pair, seeded: &mut Seeded) {
     }
 }
 
-/// The caller hands in another record: any mode, place and count. A count that is refused is set right afterwards, since
+/// The caller hands in another record: any mode, limit, place and count. A count that is refused is set right afterwards, since
 /// nothing else would come of it.
 fn altered_record(pair: &mut Pair, seeded: &mut Seeded) -> Played {
-    let count = match seeded.below(6) {
+    if seeded.one_in(2) {
+        pair.record.limit = limits::any(seeded);
+    }
+    let full = usize::from(pair.record.limit) + 6;
+    let count = match seeded.below(8) {
         0 => seeded.below(8),
-        1 => 1_030 + seeded.below(5),
-        2 => 1_035 + seeded.below(3),
-        3 => seeded.pick(&[1 << 16, (1 << 32) + 4, 1 << 63, usize::MAX]),
-        4 => pair.record.count,
+        1 => full - 3 + seeded.below(6),
+        // No unit of this limit counts so far.
+        2 => full + seeded.below(1_035 - full),
+        3 => 1_030 + seeded.below(5),
+        4 => 1_035 + seeded.below(3),
+        5 => seeded.pick(&[1 << 16, (1 << 32) + 4, 1 << 63, usize::MAX]),
+        6 => pair.record.count,
         _ => seeded.below(1_035),
     };
     pair.record = Record {
@@ -262,7 +276,7 @@ fn another_fram(pair: &mut Pair, seeded: &mut Seeded) {
 }
 
 /// A byte that means something to the receiver, mostly.
-fn any_byte(seeded: &mut Seeded) -> u8 {
+pub fn any_byte(seeded: &mut Seeded) -> u8 {
     match seeded.below(3) {
         0 => FEND,
         1 => seeded.pick(&[FESC, 0xDC, 0xDD, 0x41]),
@@ -285,6 +299,7 @@ fn wrongly_lent(pair: &mut Pair, seeded: &mut Seeded) -> Played {
     pair.lengths = lengths;
     pair.record.address = record.address;
     pair.record.fram_len = record.fram_len;
+    pair.record.limit = record.limit;
     if pair.record.count > 1_034 {
         pair.record.count = record.count;
     }
@@ -294,7 +309,7 @@ fn wrongly_lent(pair: &mut Pair, seeded: &mut Seeded) -> Played {
 /// Makes the record wrong, given the right lengths.
 fn spoil_record(pair: &mut Pair, seeded: &mut Seeded, right: &Lengths) {
     let fram = right.fram;
-    match seeded.below(4) {
+    match seeded.below(5) {
         0 => pair.record.address = seeded.pick(&[0x00, FEND, FESC]),
         1 => {
             pair.record.fram_len =
@@ -308,7 +323,8 @@ fn spoil_record(pair: &mut Pair, seeded: &mut Seeded, right: &Lengths) {
                 pair.lengths.sums = length / 256;
             }
         }
-        _ => pair.record.count = seeded.pick(&[1_035, 1_036, 1 << 32, usize::MAX]),
+        3 => pair.record.count = seeded.pick(&[1_035, 1_036, 1 << 32, usize::MAX]),
+        _ => pair.record.limit = limits::none(seeded),
     }
 }
 
@@ -337,10 +353,14 @@ fn refused_set_up(pair: &mut Pair, seeded: &mut Seeded) -> Played {
         0 => seeded.pick(&[0x00, FEND, FESC]),
         _ => 0x41,
     };
+    let limit = match seeded.below(3) {
+        0 => limits::wide_none(seeded),
+        _ => limits::any(seeded).into(),
+    };
     for _ in 0..seeded.below(4) {
         spoil_length(pair, seeded, &lengths);
     }
-    pair.set_up(address)?;
+    pair.set_up(address, limit)?;
     if seeded.one_in(2) {
         pair.lengths = lengths;
     }

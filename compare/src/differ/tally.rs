@@ -1,5 +1,6 @@
 //! What the streams reached: a comparison says little about what never came.
 
+use super::limits::Limits;
 use super::rows::Rows;
 use std::fmt;
 
@@ -49,6 +50,8 @@ pub struct Tally {
     pub sent: Times,
     /// What was done about the read-only rows.
     pub rows: Rows,
+    /// The limits that units had.
+    pub limits: Limits,
 }
 
 impl Tally {
@@ -59,6 +62,11 @@ impl Tally {
         if matches!(answer, 1..=4 | 10) {
             self.commands[usize::from(code)].add(answer);
         }
+    }
+
+    /// What a run never did.
+    pub fn missed(&self) -> Vec<String> {
+        [self.limits.missed(), self.rows.missed()].concat()
     }
 }
 
@@ -74,6 +82,7 @@ impl fmt::Display for Tally {
         writeln!(f, "  judging a list: {}", self.judged)?;
         writeln!(f, "  storing a list: {}", self.stored)?;
         writeln!(f, "  sending a judged list: {}", self.sent)?;
+        writeln!(f, "  {}", self.limits)?;
         write!(f, "  {}", self.rows)
     }
 }

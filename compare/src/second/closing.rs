@@ -1,8 +1,8 @@
 //! 01, The line and The message (ICD 10): the tests at the close of a run, and the reply.
 
 use super::command::{self, Memory, No};
-use super::crc;
-use super::line::{self, Run, LONGEST};
+use super::line::{self, Run};
+use super::{crc, limit};
 use crate::record::Record;
 
 /// The fewest bytes of a message: two addresses, control and CRC (ICD 10.2).
@@ -33,7 +33,7 @@ pub fn close(
     message: &[u8],
     reply: &mut [u8],
 ) -> (Record, u8, usize) {
-    match judged(run, record.address, message) {
+    match judged(run, &record, message) {
         Judged::Empty => (record, 0, 0),
         Judged::Dropped(number) => {
             add_one(number, diagnostics);
@@ -44,15 +44,16 @@ pub fn close(
     }
 }
 
-/// The tests in 01's order: empty, framing, under 5 bytes, over 1,033, and those of a message of legal length.
-fn judged(run: Run, address: u8, message: &[u8]) -> Judged<'_> {
+/// The tests in 01's order: empty, framing, under 5 bytes, over the limit and 5, and those of a message of legal length.
+fn judged<'a>(run: Run, record: &Record, message: &'a [u8]) -> Judged<'a> {
+    let longest = limit::longest(record.limit);
     match run {
         Run::Whole(0) => Judged::Empty,
         Run::Faulty => Judged::Dropped(5),
         Run::Whole(count) if count < SHORTEST => Judged::Dropped(6),
-        Run::Whole(count) if count > LONGEST => Judged::Dropped(7),
+        Run::Whole(count) if count > longest => Judged::Dropped(7),
         // The buffer as it is lent now, not what was seen on the way.
-        Run::Whole(count) => judged_message(address, &message[..count]),
+        Run::Whole(count) => judged_message(record.address, &message[..count]),
     }
 }
 
@@ -84,8 +85,8 @@ fn obeyed(
 ) -> (Record, u8, usize) {
     let (control, data) = (command[2], &command[3..]);
     let poll = control & POLL != 0;
-    let mut mode = record.mode;
-    match command::carry_out(control & CODE, data, &mut mode, memory, diagnostics) {
+    let (limit, mut mode) = (record.limit.into(), record.mode);
+    match command::carry_out(control & CODE, data, limit, &mut mode, memory, diagnostics) {
         Ok(shown) => {
             let record = Record { mode, ..record };
             if poll {

@@ -1,5 +1,5 @@
 //! 01, Commands (ICD 11): the eleven commands. Each judges its data's length first, then counts and the reply's size, then
-//! the memory range, and changes nothing before all of that is settled.
+//! the memory range, and changes nothing before all of that is settled. The limit is the most data bytes of a reply.
 
 use super::{edac, fram, list};
 use crate::record::Mode;
@@ -22,16 +22,13 @@ pub enum No {
 /// The reply's data, where a command is done.
 type Done = Result<Vec<u8>, No>;
 
-/// The most data bytes of a message, so of a reply too (ICD 10.2).
-const MOST_DATA: usize = 1_028;
-const MOST_PEEKED: usize = 1_024;
-const MOST_CHANNELS: usize = 205;
 const PING_TEXT: &[u8] = b"WHEEL UNIT NSP 01";
 const APPLICATION: u32 = 0x2005_0000;
 
 pub fn carry_out(
     code: u8,
     data: &[u8],
+    limit: usize,
     mode: &mut Mode,
     memory: Memory,
     diagnostics: &[u32],
@@ -44,15 +41,15 @@ pub fn carry_out(
     match code {
         0x00 => Ok(PING_TEXT.to_vec()),
         0x01 => init(data, mode),
-        0x02 => peek(data, fram),
+        0x02 => peek(data, limit, fram),
         0x03 => poke(data, fram, sums),
-        0x04 => diagnostic(data, diagnostics),
+        0x04 => diagnostic(data, limit, diagnostics),
         0x06 => crc(data, fram, sums),
-        0x07 => read_file(data, edac),
-        0x08 => write_file(data, edac),
-        0x09 => read_edac(data, edac),
+        0x07 => read_file(data, limit, edac),
+        0x08 => write_file(data, limit, edac),
+        0x09 => read_edac(data, limit, edac),
         0x0A => write_edac(data, edac),
-        0x0B => gather(data, edac),
+        0x0B => gather(data, limit, edac),
         _ => Err(No::Refused),
     }
 }
@@ -70,13 +67,13 @@ fn init(data: &[u8], mode: &mut Mode) -> Done {
     Err(No::Refused)
 }
 
-fn peek(data: &[u8], fram: &[u8]) -> Done {
+fn peek(data: &[u8], limit: usize, fram: &[u8]) -> Done {
     let count = match data.len() {
         5 => short_count(data[4]),
         6 => long_count(data[4], data[5])?,
         _ => return Err(No::Refused),
     };
-    if count > MOST_PEEKED {
+    if 4 + count > limit {
         return Err(No::Refused);
     }
     let range = fram::range(word(&data[..4]), count as u64, fram)?;
@@ -84,7 +81,7 @@ fn peek(data: &[u8], fram: &[u8]) -> Done {
 }
 
 fn poke(data: &[u8], fram: &mut [u8], sums: &mut [u16]) -> Done {
-    // Five to 1,028 bytes: more do not fit in a message.
+    // Five bytes or more, up to the limit: the message has no others.
     if data.len() < 5 {
         return Err(No::Refused);
     }
@@ -94,8 +91,8 @@ fn poke(data: &[u8], fram: &mut [u8], sums: &mut [u16]) -> Done {
     Ok(data.to_vec())
 }
 
-fn diagnostic(data: &[u8], diagnostics: &[u32]) -> Done {
-    if data.is_empty() || data.len() > MOST_CHANNELS {
+fn diagnostic(data: &[u8], limit: usize, diagnostics: &[u32]) -> Done {
+    if data.is_empty() || 5 * data.len() > limit {
         return Err(No::Refused);
     }
     let mut shown = Vec::new();
@@ -123,12 +120,12 @@ fn crc(data: &[u8], fram: &[u8], sums: &[u16]) -> Done {
     Ok([data, &sum.to_le_bytes()].concat())
 }
 
-fn read_file(data: &[u8], edac: &[u8]) -> Done {
+fn read_file(data: &[u8], limit: usize, edac: &[u8]) -> Done {
     if data.is_empty() {
         return Err(No::Refused);
     }
     let size: usize = data.iter().map(|&file| edac::structure_len(file)).sum();
-    if size > MOST_DATA {
+    if size > limit {
         return Err(No::Refused);
     }
     Ok(data
@@ -138,12 +135,12 @@ fn read_file(data: &[u8], edac: &[u8]) -> Done {
 }
 
 /// The list is judged before anything is stored (02, T-11), and the reply shows memory after the whole command.
-fn write_file(data: &[u8], edac: &mut [u8]) -> Done {
-    if !list::judge_list(MOST_DATA as u64, data) {
+fn write_file(data: &[u8], limit: usize, edac: &mut [u8]) -> Done {
+    if !list::judge_list(limit as u64, data) {
         return Err(No::Refused);
     }
     // A list that is fit is stored: a wrong length of EDAC was refused with the byte.
-    list::store_list(MOST_DATA as u64, edac, data);
+    list::store_list(limit as u64, edac, data);
     let mut shown = Vec::new();
     for structure in list::structures(data) {
         shown.extend(edac::file(structure[0], edac));
@@ -151,13 +148,13 @@ fn write_file(data: &[u8], edac: &mut [u8]) -> Done {
     Ok(shown)
 }
 
-fn read_edac(data: &[u8], edac: &[u8]) -> Done {
+fn read_edac(data: &[u8], limit: usize, edac: &[u8]) -> Done {
     let count = match data.len() {
         3 => short_count(data[2]),
         4 => long_count(data[2], data[3])?,
         _ => return Err(No::Refused),
     };
-    if 2 + count > MOST_DATA {
+    if 2 + count > limit {
         return Err(No::Refused);
     }
     let range = edac::range(half_word(&data[..2]), count)?;
@@ -175,14 +172,14 @@ fn write_edac(data: &[u8], edac: &mut [u8]) -> Done {
     Ok([address, &edac[range]].concat())
 }
 
-fn gather(data: &[u8], edac: &[u8]) -> Done {
+fn gather(data: &[u8], limit: usize, edac: &[u8]) -> Done {
     if data.is_empty() || data.len() % 4 != 0 {
         return Err(No::Refused);
     }
     let mut shown = Vec::new();
     for asked in data.chunks(4) {
         let count = long_count(asked[2], asked[3])?;
-        if shown.len() + 4 + count > MOST_DATA {
+        if shown.len() + 4 + count > limit {
             return Err(No::Refused);
         }
         let range = edac::range(half_word(asked), count)?;

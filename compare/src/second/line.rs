@@ -7,35 +7,37 @@ pub const FESC: u8 = 0xDB;
 const TFEND: u8 = 0xDC;
 const TFESC: u8 = 0xDD;
 
-/// The most bytes of a message, destination to CRC (ICD 10.2).
+/// The most bytes of a message on any bus, destination to CRC (ICD 10.2).
 pub const LONGEST: usize = 1_033;
 
 /// A run that a FEND has closed.
 pub enum Run {
     /// It has a framing fault.
     Faulty,
-    /// So many bytes were unpacked from it, or 1,034 where there were more.
+    /// So many bytes were unpacked from it, or one more than a message may have where there were more.
     Whole(usize),
 }
 
-/// One byte: the receiver's new place and count, and the run that it closed.
+/// One byte, where a message has at most `longest`: the receiver's new place and count, and the run that it closed.
 pub fn take(
     place: Place,
     count: usize,
     byte: u8,
+    longest: usize,
     message: &mut [u8],
 ) -> (Place, usize, Option<Run>) {
     if byte == FEND {
         // Each FEND opens a run, and what follows is read without regard to the run before it.
         return (Place::Run, 0, closed(place, count));
     }
+    let mut stored = |byte| (Place::Run, store(byte, count, longest, message), None);
     match (place, byte) {
         // Before the first FEND, and after a fault until the next, no byte means anything.
         (Place::Fresh | Place::Fault, _) => (place, count, None),
         (Place::Run, FESC) => (Place::Escape, count, None),
-        (Place::Run, _) => (Place::Run, store(byte, count, message), None),
-        (Place::Escape, TFEND) => (Place::Run, store(FEND, count, message), None),
-        (Place::Escape, TFESC) => (Place::Run, store(FESC, count, message), None),
+        (Place::Run, _) => stored(byte),
+        (Place::Escape, TFEND) => stored(FEND),
+        (Place::Escape, TFESC) => stored(FESC),
         // FESC and anything else is a framing fault, which the closing FEND will answer.
         (Place::Escape, _) => (Place::Fault, count, None),
     }
@@ -50,12 +52,17 @@ fn closed(place: Place, count: usize) -> Option<Run> {
     }
 }
 
-/// Only the first 1,033 unpacked bytes are stored, however long the buffer is, and the count stops at 1,034.
-fn store(byte: u8, count: usize, message: &mut [u8]) -> usize {
-    if count < LONGEST {
+/// Only as many bytes as a message may have are stored, however long the buffer is, and the count stops at the next one. A lent
+/// count above that stays as it is (02, T-06).
+fn store(byte: u8, count: usize, longest: usize, message: &mut [u8]) -> usize {
+    if count < longest {
         message[count] = byte;
     }
-    (count + 1).min(LONGEST + 1)
+    if count <= longest {
+        count + 1
+    } else {
+        count
+    }
 }
 
 /// A message with FEND at both ends, at the start of the reply buffer. Hands back its length.

@@ -1,15 +1,11 @@
 //! 02, T-11 (ICD 11.12): a list of files is judged, and one that is fit is stored. WRITE FILE uses both. They can be asked with
-//! no unit at hand, so they are told the limit, which is the most data bytes of a message.
+//! no unit at hand, so they are told the limit.
 
-use super::{edac, refusals};
-use std::ops::RangeInclusive;
-
-/// The limits that a unit can have (02, T-06).
-const LIMITS: RangeInclusive<u64> = 260..=1_028;
+use super::{edac, limit, refusals};
 
 /// Whether WRITE FILE with this list would be ACKed in application mode.
 pub fn judge_list(limit: u64, list: &[u8]) -> bool {
-    LIMITS.contains(&limit)
+    limit::is_right(limit)
         && list.len() as u64 <= limit
         && !list.is_empty()
         && structures(list).into_iter().all(is_whole)

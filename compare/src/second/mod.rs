@@ -1,16 +1,17 @@
-//! The whole unit of 01 a second time, with T-02 and T-11 of 02, in plain Rust: what the proved unit is held against. It is
-//! written from 01, 02 and the ICD alone and shares no line with the proved one. It has no table of sums and keeps nothing
+//! The whole unit of 01 a second time, with T-02, T-06 and T-11 of 02, in plain Rust: what the proved unit is held against. It
+//! is written from 01, 02 and the ICD alone and shares no line with the proved one. It has no table of sums and keeps nothing
 //! between calls, and each sum is worked out bit by bit wherever 01 does not say that it comes from the kept ones.
 //!
 //! A byte's way: `refusals` judges what is lent, `line` unpacks, `closing` judges a closed run, `command` carries it out on
 //! `edac`, where `read_only` says which bytes stay, and `fram`, and `line` packs the reply. `list` judges and stores the files
-//! of WRITE FILE, for the command and for anyone who asks without a unit.
+//! of WRITE FILE, for the command and for anyone who asks without a unit. `limit` says how long a message may be.
 
 mod closing;
 mod command;
 mod crc;
 mod edac;
 mod fram;
+mod limit;
 mod line;
 mod list;
 pub mod read_only;
@@ -23,8 +24,10 @@ pub use list::{judge_list, store_list};
 use refusals::Lengths;
 
 /// 01, The unit and its neighbours: computes all sums and changes nothing else. Hands back the record and the answer.
+#[allow(clippy::too_many_arguments)]
 pub fn set_up(
     address: u8,
+    limit: u64,
     edac: &[u8],
     fram: &[u8],
     sums: &mut [u16],
@@ -40,7 +43,7 @@ pub fn set_up(
         message: message.len(),
         reply: reply.len(),
     };
-    if let Some(number) = refusals::of_set_up(address, &lengths) {
+    if let Some(number) = refusals::of_set_up(address, limit, &lengths) {
         return (REFUSED, number);
     }
     fram::sum_every_block(fram, sums);
@@ -48,6 +51,8 @@ pub fn set_up(
         address,
         mode: Mode::Bootloader,
         fram_len: fram.len(),
+        // No limit that is right is cut.
+        limit: limit as u16,
         place: Place::Fresh,
         count: 0,
     };
@@ -78,7 +83,8 @@ pub fn step(
     if let Some(number) = refusals::of_step(&record, &lengths) {
         return (record, number, 0);
     }
-    let (place, count, closed) = line::take(record.place, record.count, byte, message);
+    let longest = limit::longest(record.limit);
+    let (place, count, closed) = line::take(record.place, record.count, byte, longest, message);
     let record = Record {
         place,
         count,

@@ -1,5 +1,6 @@
-//! 01, One byte in, one answer out: the refusals 20 to 26, lowest number first. They change nothing at all.
+//! 01, One byte in, one answer out: the refusals 20 to 26, and 29 (02, T-06), lowest number first. They change nothing at all.
 
+use super::limit;
 use super::line::{FEND, FESC, LONGEST};
 use crate::record::Record;
 
@@ -21,8 +22,11 @@ pub struct Lengths {
 }
 
 /// Set-up has no 26: there is no record yet.
-pub fn of_set_up(address: u8, lengths: &Lengths) -> Option<u8> {
-    of_lent(address, fits(lengths.fram), lengths)
+pub fn of_set_up(address: u8, limit: u64, lengths: &Lengths) -> Option<u8> {
+    if let Some(number) = of_lent(address, fits(lengths.fram), lengths) {
+        return Some(number);
+    }
+    of_limit(limit)
 }
 
 /// After set-up, an FRAM length other than the one set up is 22 too.
@@ -31,11 +35,19 @@ pub fn of_step(record: &Record, lengths: &Lengths) -> Option<u8> {
     if let Some(number) = of_lent(record.address, fram_is_right, lengths) {
         return Some(number);
     }
-    // The count never passes the byte that makes a run too long, whatever the receiver's place.
+    // The count never passes the byte that makes a run too long on every bus, whatever the limit and the receiver's place.
     if record.count > LONGEST + 1 {
         return Some(26);
     }
-    None
+    of_limit(record.limit.into())
+}
+
+fn of_limit(limit: u64) -> Option<u8> {
+    if limit::is_right(limit) {
+        None
+    } else {
+        Some(29)
+    }
 }
 
 fn of_lent(address: u8, fram_is_right: bool, lengths: &Lengths) -> Option<u8> {

@@ -1,13 +1,7 @@
 //! 02, T-11: lists of files judged and stored with no unit at hand. Whatever is asked here is asked of the second program and
 //! of the proved unit.
 use crate::bench::*;
-use compare::unit::Proved;
-use compare::wheel::{Lent, Second, Wheel};
 
-const BOTH: [&dyn Wheel; 2] = [&Second, &Proved];
-
-/// The limit of every unit.
-const LIMIT: u64 = 1_028;
 const EDAC: usize = 1_536;
 const MODE: usize = 0x5C3;
 
@@ -30,16 +24,16 @@ const NO_LIMITS: [u64; 9] = [
 ];
 
 fn judged(limit: u64, list: &[u8]) -> bool {
-    let [one, two] = BOTH.map(|wheel| wheel.judge_list(limit, list));
+    let [one, two] = PROGRAMS.map(|program| program.wheel().judge_list(limit, list));
     assert_eq!(one, two, "limit {limit}, {list:x?}");
     one
 }
 
 /// What EDAC memory that held the pattern holds after storing, or the number of the refusal, which changes nothing.
 fn stored(limit: u64, edac_len: usize, list: &[u8]) -> Result<Vec<u8>, u8> {
-    let [one, two] = BOTH.map(|wheel| {
+    let [one, two] = PROGRAMS.map(|program| {
         let mut edac = pattern(edac_len);
-        match wheel.store_list(limit, &mut edac, list) {
+        match program.wheel().store_list(limit, &mut edac, list) {
             0 => Ok(edac),
             number => {
                 assert_eq!(edac, pattern(edac_len));
@@ -80,21 +74,9 @@ fn list_of(length: usize) -> Vec<u8> {
 }
 
 /// The answer of a unit in application mode to WRITE FILE with poll set, and the memory that it leaves.
-fn sent(wheel: &dyn Wheel, list: &[u8]) -> (u8, Vec<u8>) {
-    let (mut unit, mut answer) = (Bench::application(), 0);
-    let line = escaped(&message(ADDRESS, 0x11, 0x88, list));
-    for byte in line.into_iter().chain([FEND]) {
-        let lent = Lent {
-            edac: &mut unit.edac,
-            fram: &mut unit.fram,
-            sums: &mut unit.sums,
-            diagnostics: &mut unit.diagnostics,
-            message: &mut unit.message,
-            reply: &mut unit.reply,
-        };
-        let stepped = wheel.step(unit.record, byte, lent);
-        (unit.record, answer) = (stepped.record, stepped.answer);
-    }
+fn sent(program: Program, limit: u64, list: &[u8]) -> (u8, Vec<u8>) {
+    let mut unit = Bench::application_of(program, limit);
+    let (answer, _) = unit.run(&escaped(&message(ADDRESS, 0x11, 0x88, list)));
     (answer, unit.edac)
 }
 
@@ -296,16 +278,25 @@ fn judging_and_storing_are_what_the_command_does() {
         for limit in NO_LIMITS {
             assert!(!judged(limit, &list));
         }
-        let due = match (fits, stored(LIMIT, EDAC, &list)) {
-            (true, Ok(edac)) => (1, edac),
-            // A list that no message can carry makes an oversize run.
-            (false, Err(4)) if length > 1_028 => (7, pattern(EDAC)),
-            (false, Err(4)) => (3, pattern(EDAC)),
-            (_, stored) => panic!("{length}: {stored:x?}"),
-        };
-        for wheel in BOTH {
-            assert_eq!(sent(wheel, &list), due, "{length}");
+        // A unit that the list just fits, one that it is a byte too long for, and one of the highest limit.
+        let just = (length as u64).clamp(261, LIMIT);
+        for limit in [just, just - 1, LIMIT] {
+            sent_as_judged(limit, &list);
         }
+    }
+}
+
+/// A list sent to a unit is answered as it is judged by the unit's limit, and leaves what storing leaves.
+fn sent_as_judged(limit: u64, list: &[u8]) {
+    let due = match (judged(limit, list), stored(limit, EDAC, list)) {
+        (true, Ok(edac)) => (1, edac),
+        // A list that no message can carry makes an oversize run.
+        (false, Err(4)) if list.len() as u64 > limit => (7, pattern(EDAC)),
+        (false, Err(4)) => (3, pattern(EDAC)),
+        (_, stored) => panic!("{}: {stored:x?}", list.len()),
+    };
+    for program in PROGRAMS {
+        assert_eq!(sent(program, limit, list), due, "{}", list.len());
     }
 }
 

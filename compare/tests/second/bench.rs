@@ -2,15 +2,38 @@
 
 use compare::plain;
 use compare::record::{Mode, Place, Record, REFUSED};
-use compare::second;
+use compare::unit::Proved;
+use compare::wheel::{Lent, Second, Wheel};
 
 pub const FEND: u8 = 0xC0;
 pub const ADDRESS: u8 = 0x41;
 pub const FIRST: u32 = 0x2004_0000;
 pub const APPLICATION: [u8; 4] = [0x00, 0x00, 0x05, 0x20];
 
+/// The highest limit, which is that of every unit unless a test says another.
+pub const LIMIT: u64 = 1_028;
+
+/// Which program a unit is.
+#[derive(Clone, Copy, Debug, PartialEq)]
+pub enum Program {
+    Second,
+    Proved,
+}
+
+pub const PROGRAMS: [Program; 2] = [Program::Second, Program::Proved];
+
+impl Program {
+    pub fn wheel(self) -> &'static dyn Wheel {
+        match self {
+            Program::Second => &Second,
+            Program::Proved => &Proved,
+        }
+    }
+}
+
 #[derive(Clone, Debug, PartialEq)]
 pub struct Bench {
+    pub program: Program,
     pub record: Record,
     pub edac: Vec<u8>,
     pub fram: Vec<u8>,
@@ -82,7 +105,12 @@ pub fn unpacked(sent: &[u8]) -> Vec<u8> {
 impl Bench {
     /// Lent buffers of right lengths that no set-up has seen.
     pub fn bare(fram_len: usize) -> Bench {
+        Bench::bare_of(Program::Second, fram_len)
+    }
+
+    pub fn bare_of(program: Program, fram_len: usize) -> Bench {
         Bench {
+            program,
             record: REFUSED,
             edac: pattern(1_536),
             fram: pattern(fram_len),
@@ -94,29 +122,47 @@ impl Bench {
     }
 
     pub fn set_up(&mut self, address: u8) -> u8 {
-        let (record, answer) = second::set_up(
-            address,
-            &self.edac,
-            &self.fram,
-            &mut self.sums,
-            &self.diagnostics,
-            &self.message,
-            &self.reply,
-        );
-        self.record = record;
-        answer
+        self.set_up_with(address, LIMIT)
+    }
+
+    pub fn set_up_with(&mut self, address: u8, limit: u64) -> u8 {
+        let wheel = self.program.wheel();
+        let stepped = wheel.set_up(address, limit, self.lent());
+        assert_eq!(stepped.sent, 0);
+        self.record = stepped.record;
+        stepped.answer
+    }
+
+    fn lent(&mut self) -> Lent<'_> {
+        Lent {
+            edac: &mut self.edac,
+            fram: &mut self.fram,
+            sums: &mut self.sums,
+            diagnostics: &mut self.diagnostics,
+            message: &mut self.message,
+            reply: &mut self.reply,
+        }
     }
 
     /// A unit that was set up, in bootloader mode, whose receiver is fresh.
     pub fn fresh() -> Bench {
-        let mut bench = Bench::bare(1_024);
-        assert_eq!(bench.set_up(ADDRESS), 0);
+        Bench::fresh_of(Program::Second, LIMIT)
+    }
+
+    /// The same of either program and with any limit.
+    pub fn fresh_of(program: Program, limit: u64) -> Bench {
+        let mut bench = Bench::bare_of(program, 1_024);
+        assert_eq!(bench.set_up_with(ADDRESS, limit), 0);
         bench
     }
 
     /// The same in application mode, after a FEND.
     pub fn application() -> Bench {
-        let mut bench = Bench::fresh();
+        Bench::application_of(Program::Second, LIMIT)
+    }
+
+    pub fn application_of(program: Program, limit: u64) -> Bench {
+        let mut bench = Bench::fresh_of(program, limit);
         bench.record.mode = Mode::Application;
         assert_eq!(bench.feed(&[FEND]), [0]);
         bench
@@ -130,18 +176,10 @@ impl Bench {
     }
 
     pub fn byte(&mut self, byte: u8) -> (u8, usize) {
-        let (record, answer, sent) = second::step(
-            self.record,
-            byte,
-            &mut self.edac,
-            &mut self.fram,
-            &mut self.sums,
-            &mut self.diagnostics,
-            &mut self.message,
-            &mut self.reply,
-        );
-        self.record = record;
-        (answer, sent)
+        let (wheel, record) = (self.program.wheel(), self.record);
+        let stepped = wheel.step(record, byte, self.lent());
+        self.record = stepped.record;
+        (stepped.answer, stepped.sent)
     }
 
     /// The answers to some bytes.

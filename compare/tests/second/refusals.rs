@@ -1,4 +1,4 @@
-//! The refusals 20 to 26: each alone, and each before all that come after it.
+//! The refusals 20 to 26 and 29: each alone, and each before all that come after it.
 use crate::bench::*;
 use compare::record::{Mode, Place, REFUSED};
 
@@ -12,18 +12,21 @@ fn spoil(unit: &mut Bench, number: u8) {
         24 => unit.diagnostics.push(0),
         25 => unit.reply.truncate(2_067),
         26 => unit.record.count = 1_035,
+        29 => unit.record.limit = 1_029,
         _ => panic!("{number}"),
     }
 }
 
 #[test]
 fn each_alone_and_the_lowest_first() {
-    for lowest in 20..=26 {
-        for others in 0..1 << (26 - lowest) {
+    let numbers = [20, 21, 22, 23, 24, 25, 26, 29];
+    for (at, lowest) in numbers.into_iter().enumerate() {
+        let after = &numbers[at + 1..];
+        for others in 0..1 << after.len() {
             let mut unit = Bench::open();
             spoil(&mut unit, lowest);
-            for number in lowest + 1..=26 {
-                if others >> (number - lowest - 1) & 1 == 1 {
+            for (bit, &number) in after.iter().enumerate() {
+                if others >> bit & 1 == 1 {
                     spoil(&mut unit, number);
                 }
             }
@@ -126,6 +129,7 @@ fn fram_lengths() {
         let mut unit = Bench::bare(fram_len);
         unit.record.address = ADDRESS;
         unit.record.fram_len = fram_len;
+        unit.record.limit = 1_028;
         assert_eq!(unit.byte(FEND).0, due, "{fram_len}");
     }
 }
