@@ -60,18 +60,18 @@ int main(int count, char **words) {
         const struct wheel_part first = {0x1234, 0}, second = {0x5678, (uint32_t)number};
         printf("%04x\n", wheel_join(first, second).part.sum);
     } else if (words[1][0] == 'a') {
-        return wheel_judge_list(WHEEL_LIMIT, bytes, dear(number, bytes)) != 1;
+        return wheel_judge_list(WHEEL_LIMIT_MOST, bytes, dear(number, bytes)) != 1;
     } else if (words[1][0] == 'w') {
         static uint8_t edac[WHEEL_EDAC];
-        return wheel_store_list(WHEEL_LIMIT, edac, WHEEL_EDAC, bytes, dear(number, bytes)) != WHEEL_TAKEN;
+        return wheel_store_list(WHEEL_LIMIT_MOST, edac, WHEEL_EDAC, bytes, dear(number, bytes)) != WHEEL_TAKEN;
     } else if (number <= WHEEL_FRAM_MOST) {
         static uint8_t edac[WHEEL_EDAC], fram[WHEEL_FRAM_MOST], message[WHEEL_MESSAGE], reply[WHEEL_REPLY];
         static uint16_t sums[WHEEL_FRAM_MOST / WHEEL_FRAM_BLOCK];
         static uint32_t diagnostics[WHEEL_DIAGNOSTICS];
-        struct wheel_unit unit = {WHEEL_FRAM_LEAST, 0, 0x41, WHEEL_BOOTLOADER, WHEEL_RUN};
+        struct wheel_unit unit = {WHEEL_FRAM_LEAST, 0, WHEEL_LIMIT_MOST, 0x41, WHEEL_BOOTLOADER, WHEEL_RUN};
         if (strcmp(words[1], "set_up") == 0) {
-            return wheel_set_up(0x41, edac, WHEEL_EDAC, fram, number, sums, number / WHEEL_FRAM_BLOCK, diagnostics,
-                                WHEEL_DIAGNOSTICS, message, WHEEL_MESSAGE, reply, WHEEL_REPLY)
+            return wheel_set_up(0x41, WHEEL_LIMIT_MOST, edac, WHEEL_EDAC, fram, number, sums, number / WHEEL_FRAM_BLOCK,
+                                diagnostics, WHEEL_DIAGNOSTICS, message, WHEEL_MESSAGE, reply, WHEEL_REPLY)
                        .answer != WHEEL_TAKEN;
         }
         if (strcmp(words[1], "last") == 0) {

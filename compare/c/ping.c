@@ -11,8 +11,9 @@ static uint32_t diagnostics[WHEEL_DIAGNOSTICS];
 
 int main(void) {
     static const uint8_t ping[] = {0xC0, 0x41, 0x11, 0x80, 0xD8, 0x6D, 0xC0};
-    struct wheel_stepped now = wheel_set_up(0x41, edac, WHEEL_EDAC, fram, FRAM, sums, FRAM / WHEEL_FRAM_BLOCK, diagnostics,
-                                            WHEEL_DIAGNOSTICS, message, WHEEL_MESSAGE, reply, WHEEL_REPLY);
+    struct wheel_stepped now =
+        wheel_set_up(0x41, WHEEL_LIMIT_MOST, edac, WHEEL_EDAC, fram, FRAM, sums, FRAM / WHEEL_FRAM_BLOCK, diagnostics,
+                     WHEEL_DIAGNOSTICS, message, WHEEL_MESSAGE, reply, WHEEL_REPLY);
     if (now.answer != WHEEL_TAKEN) {
         fprintf(stderr, "set-up refused: %u\n", (unsigned)now.answer);
         return 1;

@@ -36,14 +36,15 @@ static struct wheel_stepped step(struct wheel_unit unit, uint8_t byte, struct le
                       lent.message, n.message, lent.reply, n.reply);
 }
 
-static struct wheel_stepped set_up(uint8_t address, struct lengths n) {
-    return wheel_set_up(address, lent.edac, n.edac, lent.fram, n.fram, lent.sums, n.sums, lent.diagnostics, n.diagnostics,
-                        lent.message, n.message, lent.reply, n.reply);
+static struct wheel_stepped set_up(uint8_t address, uint64_t limit, struct lengths n) {
+    return wheel_set_up(address, limit, lent.edac, n.edac, lent.fram, n.fram, lent.sums, n.sums, lent.diagnostics,
+                        n.diagnostics, lent.message, n.message, lent.reply, n.reply);
 }
 
 static void same_unit(const char *name, struct wheel_unit came, struct wheel_unit due) {
     same(name, came.fram_len, due.fram_len);
     same(name, came.count, due.count);
+    same(name, came.limit, due.limit);
     same(name, came.address, due.address);
     same(name, came.mode, due.mode);
     same(name, came.place, due.place);
@@ -56,24 +57,73 @@ static void refused(const char *name, struct wheel_stepped came, unsigned answer
     same(name, (unsigned long long)memcmp(&lent, &before, sizeof lent), 0);
 }
 
+/* Limits that no unit has, with all their bits: only the first NARROW of them fit in a record. */
+enum { NARROW = 6, NO_LIMITS = 10 };
+static const uint64_t no_limits[NO_LIMITS] = {
+    0, 1, 259, 1029, 0x8404u, 0xFFFFu, 0x10000u + 1028, 0x100000000u + 260, 0x8000000000000404u, 0xFFFFFFFFFFFFFFFFu};
+
+/* The limit at set-up and in a record: every right one goes in and comes out, and no other is taken. `fresh` is a unit that was
+ * set up with the highest. */
+static void limits(struct wheel_unit fresh) {
+    const struct wheel_unit nobody = {0, 0, 0, 0, 0, 0};
+    for (size_t i = 0; i < NO_LIMITS; i++) {
+        refused("set-up 29", set_up(0x41, no_limits[i], right), WHEEL_BAD_LIMIT, nobody);
+        struct lengths n = right;
+        n.reply--;
+        refused("set-up 25 first", set_up(0x41, no_limits[i], n), WHEEL_BAD_BUFFERS, nobody);
+    }
+    struct wheel_unit unit = fresh;
+    for (unsigned place = 0; place < 4; place++) {
+        for (size_t i = 0; i < NARROW; i++) {
+            unit.place = (uint8_t)place;
+            unit.limit = (uint16_t)no_limits[i];
+            unit.count = 1034;
+            refused("step 29", step(unit, 0xC0, right), WHEEL_BAD_LIMIT, unit);
+            unit.count = 1035;
+            refused("step 26 first", step(unit, 0xC0, right), WHEEL_BAD_COUNT, unit);
+        }
+    }
+    for (unsigned limit = WHEEL_LIMIT_LEAST; limit <= WHEEL_LIMIT_MOST; limit++) {
+        unit = fresh;
+        unit.limit = (uint16_t)limit;
+        refused("a limit set up", set_up(0x41, limit, right), WHEEL_TAKEN, unit);
+        unit.count = 1034;
+        refused("a limit kept", step(unit, 0x55, right), WHEEL_TAKEN, unit);
+    }
+    /* The count that makes a run too long, and what no unit of this limit counts to. */
+    const struct wheel_unit after = {FRAM, 0, 300, 0x41, WHEEL_APPLICATION, WHEEL_RUN};
+    struct wheel_unit run = after;
+    run.count = 305;
+    before.diagnostics[10]++;
+    refused("305 bytes under 300", step(run, 0xC0, right), WHEEL_BAD_CRC, after);
+    struct wheel_unit full = after;
+    full.count = 306;
+    refused("the 306th under 300", step(run, 0x55, right), WHEEL_TAKEN, full);
+    before.diagnostics[9]++;
+    refused("306 bytes under 300", step(full, 0xC0, right), WHEEL_OVERSIZE, after);
+    run.count = 1034;
+    refused("1,034 stay under 300", step(run, 0x55, right), WHEEL_TAKEN, run);
+    before.diagnostics[9]++;
+    refused("1,034 bytes under 300", step(run, 0xC0, right), WHEEL_OVERSIZE, after);
+}
+
 /* A list of files: a limit with all its bits, each refusal, and what is stored. */
 static void lists(void) {
     static const uint8_t list[5] = {0x28, 0x11, 0x22, 0x33, 0x44};
-    const uint64_t no_limits[] = {0, 259, 1029, 0x10000u + 1028, 0x100000000u + 260, 0x8000000000000404u, 0xFFFFFFFFFFFFFFFFu};
-    for (size_t i = 0; i < 7; i++) {
+    for (size_t i = 0; i < NO_LIMITS; i++) {
         same("no limit", wheel_judge_list(no_limits[i], list, 5), 0);
         same("no limit", wheel_store_list(no_limits[i], lent.edac, WHEEL_EDAC, list, 5), WHEEL_REFUSED_SILENT);
     }
-    same("a cut list", wheel_judge_list(WHEEL_LIMIT, list, 4), 0);
-    same("a cut list", wheel_store_list(WHEEL_LIMIT, lent.edac, WHEEL_EDAC, list, 4), WHEEL_REFUSED_SILENT);
-    same("no list", wheel_judge_list(WHEEL_LIMIT, list, 0), 0);
-    same("no list", wheel_store_list(WHEEL_LIMIT, lent.edac, WHEEL_EDAC, list, 0), WHEEL_REFUSED_SILENT);
-    same("storing 21", wheel_store_list(WHEEL_LIMIT, lent.edac, WHEEL_EDAC - 1, list, 5), WHEEL_BAD_EDAC);
+    same("a cut list", wheel_judge_list(WHEEL_LIMIT_MOST, list, 4), 0);
+    same("a cut list", wheel_store_list(WHEEL_LIMIT_MOST, lent.edac, WHEEL_EDAC, list, 4), WHEEL_REFUSED_SILENT);
+    same("no list", wheel_judge_list(WHEEL_LIMIT_MOST, list, 0), 0);
+    same("no list", wheel_store_list(WHEEL_LIMIT_MOST, lent.edac, WHEEL_EDAC, list, 0), WHEEL_REFUSED_SILENT);
+    same("storing 21", wheel_store_list(WHEEL_LIMIT_MOST, lent.edac, WHEEL_EDAC - 1, list, 5), WHEEL_BAD_EDAC);
     same("storing 21 first", wheel_store_list(0, lent.edac, WHEEL_EDAC - 1, list, 4), WHEEL_BAD_EDAC);
     same("storing changes nothing", (unsigned long long)memcmp(&lent, &before, sizeof lent), 0);
-    same("the least limit", wheel_judge_list(260, list, 5), 1);
-    same("the limit", wheel_judge_list(WHEEL_LIMIT, list, 5), 1);
-    same("stored", wheel_store_list(WHEEL_LIMIT, lent.edac, WHEEL_EDAC, list, 5), WHEEL_TAKEN);
+    same("the least limit", wheel_judge_list(WHEEL_LIMIT_LEAST, list, 5), 1);
+    same("the highest limit", wheel_judge_list(WHEEL_LIMIT_MOST, list, 5), 1);
+    same("stored", wheel_store_list(WHEEL_LIMIT_MOST, lent.edac, WHEEL_EDAC, list, 5), WHEEL_TAKEN);
     memcpy(before.edac + 0xA0, list + 1, 4);
     same("stored", (unsigned long long)memcmp(&lent, &before, sizeof lent), 0);
 }
@@ -86,46 +136,49 @@ int main(void) {
 
     /* A refused call hands the record back: every field, with all bits of the wide ones. */
     const uint64_t wide[] = {0, 1, 0x0123456789ABCDEFu, 0xFEDCBA9876543210u, 0xFFFFFFFFFFFFFFFFu};
+    const uint16_t half[] = {0, 1, 0x0123, 0xFEDC, 0xFFFF};
     for (size_t i = 0; i < 5; i++) {
         for (size_t k = 0; k < 5; k++) {
             for (unsigned n = 0; n < 256; n++) {
-                const struct wheel_unit unit = {wide[i], wide[k], 0xC0, (uint8_t)n, (uint8_t)(255 - n)};
-                const struct wheel_unit due = {wide[i], wide[k], 0xC0, n == 0 ? 0 : 1, 255 - n > 3 ? 3 : (uint8_t)(255 - n)};
+                const uint16_t limit = half[n % 5];
+                const struct wheel_unit unit = {wide[i], wide[k], limit, 0xC0, (uint8_t)n, (uint8_t)(255 - n)};
+                const uint8_t mode = n == 0 ? 0 : 1, place = 255 - n > 3 ? 3 : (uint8_t)(255 - n);
+                const struct wheel_unit due = {wide[i], wide[k], limit, 0xC0, mode, place};
                 refused("a record", step(unit, (uint8_t)n, right), WHEEL_BAD_ADDRESS, due);
             }
         }
     }
     for (unsigned address = 0; address < 256; address++) {
-        const struct wheel_unit unit = {0x1122334455667788u, 5, (uint8_t)address, 1, 2};
+        const struct wheel_unit unit = {0x1122334455667788u, 5, 0xFEDC, (uint8_t)address, 1, 2};
         const int no = address == 0x00 || address == 0xC0 || address == 0xDB;
         refused("an address", step(unit, 0, right), no ? WHEEL_BAD_ADDRESS : WHEEL_BAD_FRAM, unit);
     }
 
     /* Set-up: its refusals, and then its record and sums. */
-    const struct wheel_unit nobody = {0, 0, 0, 0, 0};
-    refused("set-up 20", set_up(0xDB, right), WHEEL_BAD_ADDRESS, nobody);
+    const struct wheel_unit nobody = {0, 0, 0, 0, 0, 0};
+    refused("set-up 20", set_up(0xDB, WHEEL_LIMIT_MOST, right), WHEEL_BAD_ADDRESS, nobody);
     struct lengths n = right;
     n.edac--;
-    refused("set-up 21", set_up(0x41, n), WHEEL_BAD_EDAC, nobody);
+    refused("set-up 21", set_up(0x41, WHEEL_LIMIT_MOST, n), WHEEL_BAD_EDAC, nobody);
     n = right, n.fram--;
-    refused("set-up 22", set_up(0x41, n), WHEEL_BAD_FRAM, nobody);
+    refused("set-up 22", set_up(0x41, WHEEL_LIMIT_MOST, n), WHEEL_BAD_FRAM, nobody);
     n = right, n.sums--;
-    refused("set-up 23", set_up(0x41, n), WHEEL_BAD_SUMS, nobody);
+    refused("set-up 23", set_up(0x41, WHEEL_LIMIT_MOST, n), WHEEL_BAD_SUMS, nobody);
     n = right, n.diagnostics--;
-    refused("set-up 24", set_up(0x41, n), WHEEL_BAD_DIAGNOSTICS, nobody);
+    refused("set-up 24", set_up(0x41, WHEEL_LIMIT_MOST, n), WHEEL_BAD_DIAGNOSTICS, nobody);
     n = right, n.message--;
-    refused("set-up 25", set_up(0x41, n), WHEEL_BAD_BUFFERS, nobody);
+    refused("set-up 25", set_up(0x41, WHEEL_LIMIT_MOST, n), WHEEL_BAD_BUFFERS, nobody);
     n = right, n.reply--;
-    refused("set-up 25", set_up(0x41, n), WHEEL_BAD_BUFFERS, nobody);
-    const struct wheel_unit fresh = {FRAM, 0, 0x41, WHEEL_BOOTLOADER, WHEEL_FRESH};
-    struct wheel_stepped now = set_up(0x41, right);
+    refused("set-up 25", set_up(0x41, WHEEL_LIMIT_MOST, n), WHEEL_BAD_BUFFERS, nobody);
+    const struct wheel_unit fresh = {FRAM, 0, WHEEL_LIMIT_MOST, 0x41, WHEEL_BOOTLOADER, WHEEL_FRESH};
+    struct wheel_stepped now = set_up(0x41, WHEEL_LIMIT_MOST, right);
     for (size_t block = 0; block < SUMS; block++) {
         before.sums[block] = wheel_crc(before.fram + block * WHEEL_FRAM_BLOCK, WHEEL_FRAM_BLOCK);
     }
     refused("set up", now, WHEEL_TAKEN, fresh);
 
     /* A byte: its refusals, and each place. */
-    const struct wheel_unit fits = {FRAM, 1034, 0x41, WHEEL_APPLICATION, WHEEL_RUN};
+    const struct wheel_unit fits = {FRAM, 1034, WHEEL_LIMIT_MOST, 0x41, WHEEL_APPLICATION, WHEEL_RUN};
     n = right, n.edac--;
     refused("step 21", step(fits, 0xC0, n), WHEEL_BAD_EDAC, fits);
     n = right, n.sums--;
@@ -184,6 +237,7 @@ int main(void) {
     same("packed", sent.sent, sizeof packed);
     same("packed", (unsigned long long)memcmp(&lent, &before, sizeof lent), 0);
 
+    limits(fresh);
     lists();
 
     /* Joining: with no bytes on either side a part comes back as it was, with all bits of its fields; and its refusal. */

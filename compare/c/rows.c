@@ -100,8 +100,8 @@ static void try_places(unsigned code, const uint8_t *head, size_t heads, const s
 int main(void) {
     static const uint8_t application[4] = {0x00, 0x00, 0x05, 0x20};
     static char by_edac[WHEEL_EDAC + 1], by_file[WHEEL_EDAC + 1];
-    now = wheel_set_up(WHEEL, edac, WHEEL_EDAC, fram, WHEEL_FRAM_LEAST, sums, 1, diagnostics, WHEEL_DIAGNOSTICS, message,
-                       WHEEL_MESSAGE, reply, WHEEL_REPLY);
+    now = wheel_set_up(WHEEL, WHEEL_LIMIT_MOST, edac, WHEEL_EDAC, fram, WHEEL_FRAM_LEAST, sums, 1, diagnostics,
+                       WHEEL_DIAGNOSTICS, message, WHEEL_MESSAGE, reply, WHEEL_REPLY);
     same("set-up", now.answer, WHEEL_TAKEN);
     trying = INIT;
     ask(INIT, application, sizeof application);
