@@ -137,7 +137,7 @@ def directory():
 def helped():
     """The help waits for no input."""
     process = subprocess.run(wheel + ["--help"], stdin=pipe()[0], stdout=subprocess.PIPE, timeout=60)
-    same("the help's first line", process.stdout.split(b"\n")[0], b"usage: wheel [ADDRESS [FRAM]]")
+    same("the help's first line", process.stdout.split(b"\n")[0], b"usage: wheel [ADDRESS [FRAM [LIMIT]]]")
 
 
 helped()
