@@ -3,3 +3,4 @@ pub mod Ways
 pub mod Codes
 pub mod Room
 pub mod Settled
+pub mod Examples

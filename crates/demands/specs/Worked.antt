@@ -1,4 +1,5 @@
--- 01, "Small examples": P1 to P12, and one for 02, T-02, under one statement. Those that a unit can show are run on one, byte by byte.
+-- 01, "Small examples": P1 to P12, and one each for 02, T-02 and T-06, under one statement. Those that a unit can show are run on one, byte by
+-- byte.
 -- Assumes nothing.
 use mathlib.Core.Path.{_≡_}
 use mathlib.Core.Bool.{true, false}
@@ -32,17 +33,20 @@ seenOf u w (byte ∷ bytes) =
       left = rest .left;
     }
 
--- A fresh unit 0x41 with a limit of 1,028 and this EDAC memory, all else being zeros: what bytes show.
+-- A fresh unit 0x41 with this limit and this EDAC memory, all else being zeros: what bytes show. In 01 the limit is 1,028.
 abbrev pub lentWith : List ℕ → World
 lentWith edac = world edac (replicate 256 0) (replicate 1 0) (replicate 31 0) (replicate 1033 0) (replicate 2068 0)
 
+abbrev pub shownAt : ℕ → List ℕ → List ℕ → Seen
+shownAt limit edac bytes = let o = setUpOf 0x41 limit (lentWith edac) in seenOf (o .unit) (o .world) bytes
+
 abbrev pub shownBy : List ℕ → List ℕ → Seen
-shownBy edac bytes = let o = setUpOf 0x41 1028 (lentWith edac) in seenOf (o .unit) (o .world) bytes
+shownBy edac bytes = shownAt 1028 edac bytes
 
 abbrev pub zeros : List ℕ
 zeros = replicate 1536 0
 
--- The diagnostics where none moved, and where one run was dropped: channel 0x07 framing, 0x08 runt.
+-- The diagnostics where none moved, and where one run was dropped: channel 0x07 framing, 0x08 runt, 0x09 oversize.
 abbrev pub noCounts : List ℕ
 noCounts = replicate 31 0
 
@@ -50,10 +54,13 @@ abbrev pub onceAt : ℕ → List ℕ
 onceAt channel = set noCounts channel 1
 
 -- The answers, the bytes sent, the diagnostics and EDAC memory afterwards; FRAM as it was.
-abbrev pub Shows : List ℕ → List ℕ → List ℕ → List ℕ → List ℕ → List ℕ → Type 0
-Shows before bytes answers sent diagnostics edac =
-    let s = shownBy before bytes in
+abbrev pub ShowsAt : ℕ → List ℕ → List ℕ → List ℕ → List ℕ → List ℕ → List ℕ → Type 0
+ShowsAt limit before bytes answers sent diagnostics edac =
+    let s = shownAt limit before bytes in
     (s .answers ≡ answers) × (s .sent ≡ sent) × (s .left .diagnostics ≡ diagnostics) × (s .left .edac ≡ edac) × (s .left .fram ≡ replicate 256 0)
+
+abbrev pub Shows : List ℕ → List ℕ → List ℕ → List ℕ → List ℕ → List ℕ → Type 0
+Shows before bytes answers sent diagnostics edac = ShowsAt 1028 before bytes answers sent diagnostics edac
 
 -- INIT 0x20050000 to the unit, from 0x11, and its reply: application mode, which the commands on files need.
 abbrev pub init : List ℕ
@@ -128,3 +135,10 @@ pub record WorkedExamples : Type 0 where
       (initAnswers ++ replicate 12 0 ++ (1 ∷ []))
       (initReply ++ (0xC0 ∷ 0x11 ∷ 0x41 ∷ 0xAA ∷ 0x52 ∷ 0x00 ∷ 0xAA ∷ 0xBB ∷ 0x00 ∷ 0x00 ∷ 0xB6 ∷ 0x81 ∷ 0xC0 ∷ []))
       noCounts (stored withSpeed 0x052 (0xAA ∷ 0xBB ∷ []))
+  -- 02, T-06, at a limit of 260: a run of 266 bytes is oversize, of which at 1,028 the CRC is judged; and a PEEK of 257 bytes is refused, which
+  -- at 1,028 is an access to memory not fitted.
+  pub T06 : ShowsAt 260 zeros (0xC0 ∷ (replicate 266 0x55 ++ (0xC0 ∷ []))) (replicate 267 0 ++ (7 ∷ [])) [] (onceAt 0x09) zeros
+      × Shows zeros (0xC0 ∷ (replicate 266 0x55 ++ (0xC0 ∷ []))) (replicate 267 0 ++ (8 ∷ [])) [] (onceAt 0x0A) zeros
+      × ShowsAt 260 zeros (0xC0 ∷ 0x41 ∷ 0x11 ∷ 0x82 ∷ 0x00 ∷ 0x00 ∷ 0x04 ∷ 0x20 ∷ 0x01 ∷ 0x01 ∷ 0x61 ∷ 0xF7 ∷ 0xC0 ∷ []) (replicate 12 0 ++ (3 ∷ []))
+      (0xC0 ∷ 0x11 ∷ 0x41 ∷ 0x82 ∷ 0x00 ∷ 0x00 ∷ 0x04 ∷ 0x20 ∷ 0x01 ∷ 0x01 ∷ 0x1F ∷ 0xD0 ∷ 0xC0 ∷ []) noCounts zeros
+      × Shows zeros (0xC0 ∷ 0x41 ∷ 0x11 ∷ 0x82 ∷ 0x00 ∷ 0x00 ∷ 0x04 ∷ 0x20 ∷ 0x01 ∷ 0x01 ∷ 0x61 ∷ 0xF7 ∷ 0xC0 ∷ []) (replicate 12 0 ++ (10 ∷ [])) [] noCounts zeros
