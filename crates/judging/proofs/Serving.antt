@@ -72,6 +72,33 @@ all-passed address fits l next =
           next-tested = h;
         }
 
+-- 20 to 25 do not look at what comes after them
+pub refused-all-the-same : (address : ℕ) (fits : Bool) (l : Lengths) (next : Fit) (answer : Answer) → lengthsFit address fits l Fits ≡ Unfit answer
+    → Unfit answer ≡ lengthsFit address fits l next
+unfolding lengthsFit
+refused-all-the-same address fits l next answer =
+    tested (forbidden address) (eqb (l .edac) edacSize) fits (eqb (blockStart (l .sums)) (l .fram)) (eqb (l .diagnostics) channels)
+    (ltb (l .message) messageSize || ltb (l .reply) replySize)
+  where
+    judged : Bool → Bool → Bool → Bool → Bool → Bool → Fit → Fit
+    judged a e f s d b x =
+        cond a (Unfit BadAddress) (cond e (cond f (cond s (cond d (cond b (Unfit BadBuffers) x) (Unfit BadDiagnostics)) (Unfit BadSums)) (Unfit BadFram)) (Unfit BadEdac))
+
+    tested : (a e f s d b : Bool) → judged a e f s d b Fits ≡ Unfit answer → Unfit answer ≡ judged a e f s d b next
+    tested true e f s d b h = sym h
+    tested false false f s d b h = sym h
+    tested false true false s d b h = sym h
+    tested false true true false d b h = sym h
+    tested false true true true false b h = sym h
+    tested false true true true true true h = sym h
+    tested false true true true true false h = unfit answer (sym h)
+
+pub and-then : (address : ℕ) (fits : Bool) (l : Lengths) (next : Fit) → lengthsFit address fits l Fits ≡ Fits → next ≡ lengthsFit address fits l next
+unfolding lengthsFit
+and-then address fits l next h =
+    let p = all-passed address fits l Fits h in
+    simp (p .address-allowed, p .edac-tested, p .fram-tested, p .sums-tested, p .diagnostics-tested, p .message-tested, p .reply-tested)
+
 -- What is lent has the lengths that a call needs: what is left to say of it when no refusal is due.
 pub record Fitted (l : Lengths) : Type 0 where
   pub edac-fits : l .edac ≡ edacSize

@@ -123,25 +123,25 @@ fn fram_as_set_up(size: usize, set_up: usize) -> bool
     false
 }
 
-// 26, and then what comes after it.
-fn count_fits(count: usize, next: Fit) -> Fit
-    ensures { λ r. ⌜ r ≡ countFit count next ⌝ }
+// 26, then 29.
+fn record_fits(count: usize, limit: u16) -> Fit
+    ensures { λ r. ⌜ r ≡ countFit count (limitFit limit) ⌝ }
 {
-    if count <= LARGEST_COUNT {
-        next
-    } else {
-        Fit::Unfit(Answer::BadCount)
+    if LARGEST_COUNT < count {
+        return Fit::Unfit(Answer::BadCount);
     }
+    limit_fits(limit as usize)
 }
 
 pub fn step_fit(unit: Unit, lengths: Lengths) -> Fit
     ensures { λ r. ⌜ r ≡ stepFit unit lengths ⌝ }
 {
     let receiver = unit.receiver;
-    lengths_fit(
-        unit.address,
-        fram_as_set_up(lengths.fram, unit.fram_len),
-        lengths,
-        count_fits(receiver.count, limit_fits(unit.limit as usize)),
-    )
+    // The record is tested when what is lent has passed: as a value of `next`, made before, it would cost each byte 17 instructions more.
+    let as_set_up = fram_as_set_up(lengths.fram, unit.fram_len);
+    let fit = lengths_fit(unit.address, as_set_up, lengths, Fit::Fits);
+    match fit {
+        Fit::Unfit(answer) => Fit::Unfit(answer),
+        Fit::Fits => record_fits(receiver.count, unit.limit),
+    }
 }

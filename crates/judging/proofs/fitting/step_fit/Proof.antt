@@ -1,6 +1,8 @@
--- `judging::fitting::step_fit` meets its contract, by those of the four tests. Assumes nothing.
-use mathlib.Core.Path.{ap, ap₂, _∙_}
-use Rattle.judging.specs.Fitting.{countFit, lengthsFit, stepFit}
+-- `judging::fitting::step_fit` meets its contract, by those of the tests: what is lent, and then the record. Assumes nothing.
+use mathlib.Core.Path.{sym, ap, _∙_}
+use Rattle.judging.specs.declared.fitting.Fit.the-variants.{Fits}
+use Rattle.judging.specs.Fitting.{framAsSetUp, lengthsFit, stepFit}
+use Rattle.judging.proofs.Serving.{refused-all-the-same, and-then}
 use borrow.Author.Needs.{needs}
 use Rattle.judging.proofs.fitting.step_fit.Statement.{statement}
 use Rattle.judging.proofs.fitting.step_fit.Tie as tie
@@ -8,26 +10,43 @@ use Rattle.judging.proofs.fitting.step_fit.Tie as tie
 fram-as-set-up-requires : tie.Need-fram-as-set-up-requires
 fram-as-set-up-requires c κs = search needs
 
-cast-limit-fits : tie.Need-cast-limit-fits
-cast-limit-fits c = search needs
-
-limit-fits-requires : tie.Need-limit-fits-requires
-limit-fits-requires c κs = search needs
-
-count-fits-requires : tie.Need-count-fits-requires
-count-fits-requires c κs = search needs
-
 lengths-fit-requires : tie.Need-lengths-fit-requires
 lengths-fit-requires c κs = search needs
+
+enum-known-fit : tie.Need-enum-known-fit
+enum-known-fit c = search needs
+
+enum-told : tie.Need-enum-told
+enum-told c = search needs
+
+record-fits-requires : tie.Need-record-fits-requires
+record-fits-requires c κs = search needs
 
 returns : tie.Need-returns
 unfolding stepFit
 returns c =
     let a = c .before .before .before .before .before .before .args in
-    c .lengths-fit .ensures
-    ∙ ap₂ (λ f n. lengthsFit (a .unit .address) f (a .lengths) n) (c .before .before .before .before .fram-as-set-up .ensures)
-    (c .before .count-fits .ensures ∙ ap (countFit (a .unit .receiver .count)) (c .before .before .limit-fits .ensures))
+    let same = ap (λ f. lengthsFit (a .unit .address) f (a .lengths) Fits) (c .before .before .before .before .fram-as-set-up .ensures) in
+    refused-all-the-same (a .unit .address) (framAsSetUp (a .lengths .fram) (a .unit .«fram_len»)) (a .lengths) _ _
+    (sym same ∙ sym (c .before .before .before .lengths-fit .ensures) ∙ c .before .fit .given .1)
+
+returns-2 : tie.Need-returns-2
+unfolding stepFit
+returns-2 c =
+    let a = c .before .before .before .before .before .before .args in
+    let same = ap (λ f. lengthsFit (a .unit .address) f (a .lengths) Fits) (c .before .before .before .before .fram-as-set-up .ensures) in
+    c .record-fits .ensures
+    ∙ and-then (a .unit .address) (framAsSetUp (a .lengths .fram) (a .unit .«fram_len»)) (a .lengths) _
+    (sym same ∙ sym (c .before .before .before .lengths-fit .ensures) ∙ c .before .enum-told .given .1)
 
 pub step-fit-spec : {M : Type 1} → statement M
 step-fit-spec =
-    tie.close (tie.spec fram-as-set-up-requires cast-limit-fits limit-fits-requires count-fits-requires lengths-fit-requires returns)
+    tie.close
+    (tie.spec
+    fram-as-set-up-requires
+    lengths-fit-requires
+    enum-known-fit
+    enum-told
+    record-fits-requires
+    returns
+    returns-2)
