@@ -23,8 +23,9 @@ extern "C" {
 #define WHEEL_MESSAGE 1033u      /* uint8_t, at least */
 #define WHEEL_REPLY 2068u        /* uint8_t, at least */
 
-/* The limit of a unit: the most data bytes of a message on its bus, in commands and in replies. What is lent has the same lengths
- * under every limit. */
+/* The limit of a unit: the most data bytes of a message on its bus. A longer message is WHEEL_OVERSIZE, a command whose reply
+ * would have more data is refused, and no more than 2 * limit + 12 bytes are ever to be sent. What is lent has the same
+ * lengths under every limit. */
 #define WHEEL_LIMIT_LEAST 260u
 #define WHEEL_LIMIT_MOST 1028u
 
@@ -65,11 +66,13 @@ extern "C" {
 #define WHEEL_CRC_START 0xFFFFu
 
 /* What a unit is between two calls. The caller keeps it, and hands the one it got last to the next call. Every record has
- * a meaning; one that no call handed back may be answered with 20, 22, 26 or 29. */
+ * a meaning; one that no call handed back may be answered with 20, 22, 26 or 29, and is else believed. Of a unit's own the count
+ * stops at limit + 6. A higher one, up to 1,034, stays as it is: no more of that run is stored, and its FEND is
+ * WHEEL_OVERSIZE, or WHEEL_FRAMING after a fault or FESC. */
 struct wheel_unit {
     uint64_t fram_len; /* the length of FRAM that was set up, in bytes */
-    uint64_t count;    /* the bytes unpacked in this run, at most limit + 6 */
-    uint16_t limit;    /* the most data bytes of a message, as it was set up */
+    uint64_t count;    /* the bytes unpacked in this run */
+    uint16_t limit;    /* as it was set up, WHEEL_LIMIT_LEAST to WHEEL_LIMIT_MOST */
     uint8_t address;
     uint8_t mode;      /* WHEEL_BOOTLOADER or WHEEL_APPLICATION */
     uint8_t place;     /* WHEEL_FRESH to WHEEL_FAULT */
@@ -125,8 +128,8 @@ struct wheel_stepped wheel_step(struct wheel_unit unit, uint8_t byte, uint8_t *e
                                 size_t diagnostics_len, uint8_t *message, size_t message_len, uint8_t *reply,
                                 size_t reply_len);
 
-/* A message of 5 to 1,033 bytes, its CRC already on it, as the line carries it: FEND at both ends, escapes between. The
- * reply buffer is WHEEL_REPLY bytes or more, else WHEEL_BAD_BUFFERS; then WHEEL_BAD_LENGTH; both write nothing. */
+/* A message of 5 to 1,033 bytes, its CRC already on it, as the line carries it: FEND at both ends, escapes between. It knows of
+ * no limit: a unit drops a message that is longer than its limit + 5. The reply buffer is WHEEL_REPLY bytes or more, else WHEEL_BAD_BUFFERS; then WHEEL_BAD_LENGTH; both write nothing. */
 struct wheel_packed wheel_pack(const uint8_t *message, size_t message_len, uint8_t *reply, size_t reply_len);
 
 /* A WRITE FILE as two operations that need no unit. A list is the data of a WRITE FILE: for each file its address and four

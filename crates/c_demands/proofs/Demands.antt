@@ -213,12 +213,12 @@ set-up-so address limit w none = apart (setUpFit address limit (lengthsOf w)) re
   where
     apart : (f : Fit) → setUpFit address limit (lengthsOf w) ≡ f → numberOf (setUpAs f address limit w .answer) ≡ 0 → f ≡ Fits
     apart Fits e z = refl
-    apart (Unfit answer) e z = absurd (a-refused-set-up-is-no-0 (numberOf answer) (a-refused-set-up-has-its-number address limit (lengthsOf w) answer e) z)
+    apart (Unfit answer) e z = absurd (a-refused-set-up-is-no-0 limit (numberOf answer) (a-refused-set-up-has-its-number address limit (lengthsOf w) answer e) z)
 
 -- Demand 1, of `wheel_set_up`: 0 computes all sums and changes nothing else that is lent; 20 to 25 and 29 change nothing at all.
 pub what-a-set-up-from-C-leaves : (address limit : ℕ) (lent : World) (back : WheelStepped) (after : World) → SetsUp address limit lent back after
     → (back .answer ≡ 0 → (back .unit ≡ unitOut (somebody address limit lent)) × (after ≡ withSums lent (freshSums (lent .fram))))
-    × ((back .answer ≡ 0 → ⊥) → SetUpRefusal (back .answer) × (back .unit ≡ unitOut nobody) × (after ≡ lent))
+    × ((back .answer ≡ 0 → ⊥) → SetUpRefusal limit (back .answer) × (back .unit ≡ unitOut nobody) × (after ≡ lent))
 what-a-set-up-from-C-leaves address limit lent back after sets-up =
     let leaves = what-set-up-leaves address limit lent in
     let number : back .answer ≡ numberOf (setUpOf address limit lent .answer) = ap (λ (r : Returned). r .stepped .answer) sets-up in
@@ -227,7 +227,7 @@ what-a-set-up-from-C-leaves address limit lent back after sets-up =
       (λ none. let both = leaves .set-up (sym number ∙ none) in (unit ∙ ap unitOut (both .0), left ∙ both .1)),
       (λ other.
           let all = leaves .refused (λ none. other (number ∙ none)) in
-          (subst SetUpRefusal (sym number) (all .0), unit ∙ ap unitOut (all .1), left ∙ all .2)),
+          (subst (SetUpRefusal limit) (sym number) (all .0), unit ∙ ap unitOut (all .1), left ∙ all .2)),
     )
 
 -- `wheel_set_up` answered 0. After any calls of `wheel_step`, each with the record that the one before gave back, and with FRAM and sums

@@ -21,6 +21,3 @@ within-both-ends limit e = apart (leb leastLimit limit) (leb limit longestData) 
     apart true true ea eb is = (leb-true leastLimit limit ea, leb-true limit longestData eb)
     apart true false ea eb is = let z : false ≡ true = sym (simp (ea, eb)) ∙ is in absurd (false≢true z)
     apart false b ea eb is = let z : false ≡ true = sym (simp ea) ∙ is in absurd (false≢true z)
-
-pub is-a-limit : (limit : ℕ) → leastLimit ≤ limit → limit ≤ longestData → isLimit limit ≡ true
-is-a-limit limit least most = simp (le-leb leastLimit limit least, le-leb limit longestData most)

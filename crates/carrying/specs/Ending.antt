@@ -14,8 +14,8 @@ use Rattle.carrying.specs.declared.Ended.the-variants.{Done, Refused, Un
 abbrev pub longestData : ℕ
 longestData = 1028
 
--- A bus may allow less (02, T-06): what its limit may be, which the unit passes to the commands as `room`. No less than 260, since a one-byte count of
--- 0 asks for 256 bytes behind an address of four.
+-- A bus may allow less (02, T-06): its limit is 260 to 1,028, and the unit passes it to the commands as `room`. No less than 260, since a one-byte
+-- count of 0 asks for 256 bytes behind an address of four.
 abbrev pub leastLimit : ℕ
 leastLimit = 260
 

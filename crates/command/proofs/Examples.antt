@@ -36,10 +36,13 @@ pub peek-a-count-of-0 : isDone (at-260 0x02 (0x00 ∷ 0x00 ∷ 0x04 ∷ 0x20 ∷
 unfolding commandOf peekOf peekRangeOf placeOf
 peek-a-count-of-0 = refl
 
--- 52 channels, and 53
+-- 52 channels, and 53; at 264 still 52, at 265 also 53; at 1,028 there are 205, and not 206
 pub channels-52 : (isDone (at-260 0x04 (replicate 52 0)) ≡ true) × (isRefused (at-260 0x04 (replicate 53 0)) ≡ true)
+    × (isRefused (commandOf 264 0x20040000 0x04 (replicate 31 0) now (replicate 53 0)) ≡ true) × (isDone (commandOf 265 0x20040000 0x04 (replicate 31 0) now (replicate 53 0)) ≡ true)
+    × (isDone (commandOf 1028 0x20040000 0x04 (replicate 31 0) now (replicate 205 0)) ≡ true)
+    × (isRefused (commandOf 1028 0x20040000 0x04 (replicate 31 0) now (replicate 206 0)) ≡ true)
 unfolding commandOf diagnosticOf allChannels channelsShown
-channels-52 = (refl, refl)
+channels-52 = (refl, refl, refl, refl, refl, refl)
 
 -- 52 files of five bytes, and 53; 50 of five bytes and one of six are 256, and 42 of five and 9 of six 264
 pub files-52 : (isDone (at-260 0x07 (replicate 52 1)) ≡ true) × (isRefused (at-260 0x07 (replicate 53 1)) ≡ true)

@@ -30,7 +30,7 @@ abbrev pub row : ℕ → Bool → Bool → Ending Held → Row
 row code bootloader application comes =
     record { code = code; bootloader = bootloader; application = application; comes = comes }
 
--- `room` is the longest data field of a reply (1,028), `first` the address of the first byte of FRAM (0x20040000).
+-- `room` is the longest data field of a reply, the unit's limit, `first` the address of the first byte of FRAM (0x20040000).
 abbrev pub table : ℕ → ℕ → List ℕ → Held → List ℕ → List Row
 table room first diagnostics now field =
     row 0x00 true true (reading now pingOf)

@@ -114,17 +114,17 @@ a-refused-step-has-its-number u l answer e =
     (λ _. either-way High (isLimit (u .limit)) Fits (Unfit BadLimit) (λ _. omega arith) (λ _. omega arith)) (λ _. omega arith)))
 
 -- of set-up 20 to 25, or 29
-abbrev Refuses : Fit → Type 0
-Refuses Fits = 0 ≤ 0
-Refuses (Unfit answer) = SetUpRefusal (numberOf answer)
+abbrev Refuses : ℕ → Fit → Type 0
+Refuses limit Fits = 0 ≤ 0
+Refuses limit (Unfit answer) = SetUpRefusal limit (numberOf answer)
 
-pub a-refused-set-up-has-its-number : (address limit : ℕ) (l : Lengths) (answer : Answer) → setUpFit address limit l ≡ Unfit answer → SetUpRefusal (numberOf answer)
+pub a-refused-set-up-has-its-number : (address limit : ℕ) (l : Lengths) (answer : Answer) → setUpFit address limit l ≡ Unfit answer → SetUpRefusal limit (numberOf answer)
 unfolding setUpFit
 a-refused-set-up-has-its-number address limit l answer e =
-    subst Refuses e
-    (of-any-length Refuses address (framFits (l .fram)) l (limitFit limit) (λ answer low high. inl (low, high))
-    (either-way Refuses (isLimit limit) Fits (Unfit BadLimit) (λ _. omega arith) (λ _. inr refl)))
+    subst (Refuses limit) e
+    (of-any-length (Refuses limit) address (framFits (l .fram)) l (limitFit limit) (λ answer low high. inl (low, high))
+    (either-way (Refuses limit) (isLimit limit) Fits (Unfit BadLimit) (λ _. omega arith) (λ none. inr (refl, none))))
 
-pub a-refused-set-up-is-no-0 : (number : ℕ) → SetUpRefusal number → number ≡ 0 → ⊥
-a-refused-set-up-is-no-0 number (inl between) none = let low = between .0 in omega arith
-a-refused-set-up-is-no-0 number (inr is) none = omega arith
+pub a-refused-set-up-is-no-0 : (limit number : ℕ) → SetUpRefusal limit number → number ≡ 0 → ⊥
+a-refused-set-up-is-no-0 limit number (inl between) none = let low = between .0 in omega arith
+a-refused-set-up-is-no-0 limit number (inr is) none = let high = is .0 in omega arith

@@ -193,7 +193,7 @@ what-set-up-leaves address limit w = apart (setUpFit address limit (lengthsOf w)
     apart Fits e = record { set-up = λ _. (refl, refl); refused = λ other. absurd (other refl) }
     apart (Unfit answer) e =
         let number = a-refused-set-up-has-its-number address limit (lengthsOf w) answer e in
-        record { set-up = λ none. absurd (a-refused-set-up-is-no-0 (numberOf answer) number none); refused = λ _. (number, refl, refl) }
+        record { set-up = λ none. absurd (a-refused-set-up-is-no-0 limit (numberOf answer) number none); refused = λ _. (number, refl, refl) }
 
 -- A refused set-up hands back a record with which every later call is refused.
 pub a-refused-set-up-is-never-served : (address limit : ℕ) (w : World) (answer : Answer) → setUpFit address limit (lengthsOf w) ≡ Unfit answer

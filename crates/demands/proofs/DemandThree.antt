@@ -43,7 +43,7 @@ use Rattle.command.specs.Command.{commandOf}
 use Rattle.command.proofs.Codes.{of-any-command, in-either-mode}
 use Rattle.judging.specs.declared.Unit.{Unit}
 use Rattle.judging.specs.declared.fitting.Fit.the-variants.{Fits}
-use Rattle.judging.specs.Fitting.{framFits, limitFit, largestCount, lengthsFit, setUpFit}
+use Rattle.judging.specs.Fitting.{framFits, limitFit, lengthsFit, setUpFit}
 use Rattle.judging.specs.Judging.{largestMessage, withReceiver}
 use Rattle.judging.proofs.Serving.{Passed, all-passed, a-served-set-up-fits, a-served-set-up-is-limited}
 use Rattle.replying.specs.Replies.{codeOf, polls, replyMessage}

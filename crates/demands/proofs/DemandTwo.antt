@@ -18,7 +18,7 @@ use Rattle.line.specs.declared.receiver.Receiver.{Receiver}
 use Rattle.line.specs.declared.receiver.Heard.{Heard}
 use Rattle.line.specs.declared.receiver.Heard.the-variants as heard
 use Rattle.line.specs.Receiver.{opened, closedOf, Reception, receiveOf, Feed, feedOf}
-use Rattle.line.proofs.Escaping.{the-room-is-enough-for-the-longest}
+use Rattle.line.proofs.Escaping.{a-packed-message-is-at-most-twice-its-length-and-two}
 use Rattle.line.specs.Delivery.{deliveredOf}
 use Rattle.line.specs.Unpacking.{Unpacked, unpackOf, heardOf, keptOf, NoFend}
 use Rattle.line.proofs.Runs.{a-closed-run-is-heard-counted-and-stored-as-it-unpacks}
@@ -52,7 +52,7 @@ use Rattle.demands.proofs.DemandOne.{high-sends}
 -- ---- byte by byte
 
 -- what the limit says of lengths
-pub no-longer-than-any : (limit : ℕ) → isLimit limit ≡ true → largestMessage limit ≤ messageSize
+no-longer-than-any : (limit : ℕ) → isLimit limit ≡ true → largestMessage limit ≤ messageSize
 no-longer-than-any limit limited = omega (arith, within-both-ends limit limited .1)
 
 pub above-every-message : (limit : ℕ) → isLimit limit ≡ true → largestMessage limit < largestCount
@@ -431,42 +431,50 @@ nothing-is-sent-where-poll-is-clear u destination source control field w clear (
 nothing-is-sent-where-poll-is-clear u destination source control field w clear refused = (simp clear, simp clear)
 nothing-is-sent-where-poll-is-clear u destination source control field w clear unfitted = (refl, refl)
 
--- What is sent has room in the reply buffer.
+-- What is sent by any call at all has no more bytes than a message of limit + 5 can take, and has room in the reply buffer.
 done-answers : {reply : List ℕ} {changed : Held} → done reply changed ≡ unfitted → ⊥
 done-answers e = let z : _≡_ {A = ℕ} 0 1 = cc in absurd (omega arith)
 
 refused-answers : _≡_ {A = Ending Held} refused unfitted → ⊥
 refused-answers e = let z : _≡_ {A = ℕ} 0 1 = cc in absurd (omega arith)
 
-answered-fits : (u : Unit) (destination source control : ℕ) (field : List ℕ) (o : Ending Held) (w : World) → isLimit (u .limit) ≡ true → length field ≤ u .limit
-    → Roomy (u .limit) o → replySize ≤ length (w .reply) → sentOf (answered u destination source control field o w .answer) ≤ length (w .reply)
+answered-fits : (u : Unit) (destination source control : ℕ) (field : List ℕ) (o : Ending Held) (w : World) → length field ≤ u .limit → Roomy (u .limit) o
+    → sentOf (answered u destination source control field o w .answer) ≤ 2 * largestMessage (u .limit) + 2
 unfolding answered saidOf saying
-answered-fits u destination source control field (done reply changed) w limited short fits roomy =
-    let most = no-longer-than-any (u .limit) limited in
+answered-fits u destination source control field (done reply changed) w short fits =
     let high = legal (u .limit) destination source control field (done reply changed) done-answers short fits .1 in
-    let packed = the-room-is-enough-for-the-longest (replyMessage 1 destination source control reply) (omega arith) in
-    either-way (λ (s : Said). sentOf (s .answer) ≤ length (w .reply)) (polls control) _ _ (λ _. omega arith) (λ _. omega arith)
-answered-fits u destination source control field refused w limited short fits roomy =
-    let most = no-longer-than-any (u .limit) limited in
+    let packed = a-packed-message-is-at-most-twice-its-length-and-two (replyMessage 1 destination source control reply) in
+    either-way (λ (s : Said). sentOf (s .answer) ≤ 2 * largestMessage (u .limit) + 2) (polls control) _ _ (λ _. omega arith) (λ _. omega arith)
+answered-fits u destination source control field refused w short fits =
     let high = legal (u .limit) destination source control field refused refused-answers short fits .1 in
-    let packed = the-room-is-enough-for-the-longest (replyMessage 0 destination source control field) (omega arith) in
-    either-way (λ (s : Said). sentOf (s .answer) ≤ length (w .reply)) (polls control) _ _ (λ _. omega arith) (λ _. omega arith)
-answered-fits u destination source control field unfitted w limited short fits roomy = omega arith
+    let packed = a-packed-message-is-at-most-twice-its-length-and-two (replyMessage 0 destination source control field) in
+    either-way (λ (s : Said). sentOf (s .answer) ≤ 2 * largestMessage (u .limit) + 2) (polls control) _ _ (λ _. omega arith) (λ _. omega arith)
+answered-fits u destination source control field unfitted w short fits = omega arith
 
-pub what-is-sent-fits-the-reply-buffer : (u : Unit) (byte : ℕ) (w : World) → sentOf (stepOf u byte w .answer) ≤ length (w .reply)
-what-is-sent-fits-the-reply-buffer u byte w =
-    of-any-call (λ (o : Outcome). sentOf (o .answer) ≤ length (w .reply)) u byte w
-    (λ answer e. let z = high-sends answer (a-refused-step-has-its-number u (lengthsOf w) answer e) in omega arith)
-    (λ e.
-    let limited = a-served-step-is-limited u (lengthsOf w) e in
-    let got = receiveOf (largestMessage (u .limit)) (u .receiver) byte (w .message) in
-    let next = withReceiver u (got .receiver) in
-    let lent = withMessage w (got .message) in
-    record {
-      taken = omega arith;
-      elsewhere = omega arith;
-      dropped = λ answer which number four silent. omega arith;
-      commanded = λ destination source control field short.
-          answered-fits next destination source control field (commandOf (u .limit) firstOfFram (codeOf control) (w .diagnostics) (heldOf next lent) field) lent limited short
-          (every-reply-has-room (u .limit) (at-least-a-PING (u .limit) limited) firstOfFram (codeOf control) (w .diagnostics) (heldOf next lent) field) (a-served-step-fits u (lengthsOf w) e .reply-fits);
-    })
+module _ (u : Unit) (byte : ℕ) (w : World) where
+  sent-fits : (sentOf (stepOf u byte w .answer) ≤ 2 * largestMessage (u .limit) + 2) × (sentOf (stepOf u byte w .answer) ≤ length (w .reply))
+  sent-fits =
+      of-any-call (λ (o : Outcome). (sentOf (o .answer) ≤ 2 * largestMessage (u .limit) + 2) × (sentOf (o .answer) ≤ length (w .reply))) u byte w
+      (λ answer e. let z = high-sends answer (a-refused-step-has-its-number u (lengthsOf w) answer e) in (omega arith, omega arith))
+      (λ e.
+      let limited = a-served-step-is-limited u (lengthsOf w) e in
+      let most = no-longer-than-any (u .limit) limited in
+      let room = a-served-step-fits u (lengthsOf w) e .reply-fits in
+      let got = receiveOf (largestMessage (u .limit)) (u .receiver) byte (w .message) in
+      let next = withReceiver u (got .receiver) in
+      let lent = withMessage w (got .message) in
+      record {
+        taken = (omega arith, omega arith);
+        elsewhere = (omega arith, omega arith);
+        dropped = λ answer which number four silent. (omega arith, omega arith);
+        commanded = λ destination source control field short.
+            let few = answered-fits next destination source control field (commandOf (u .limit) firstOfFram (codeOf control) (w .diagnostics) (heldOf next lent) field) lent short
+            (every-reply-has-room (u .limit) (at-least-a-PING (u .limit) limited) firstOfFram (codeOf control) (w .diagnostics) (heldOf next lent) field) in
+            (few, omega arith);
+      })
+
+  pub no-more-is-sent-than-the-limit-allows : sentOf (stepOf u byte w .answer) ≤ 2 * largestMessage (u .limit) + 2
+  no-more-is-sent-than-the-limit-allows = sent-fits .0
+
+  pub what-is-sent-fits-the-reply-buffer : sentOf (stepOf u byte w .answer) ≤ length (w .reply)
+  what-is-sent-fits-the-reply-buffer = sent-fits .1

@@ -2,13 +2,14 @@
 use mathlib.Core.Path.{_≡_}
 use Prim.Native.Nat.{ℕ, _+_, _≤_}
 use mathlib.Core.Logic.{_⊎_}
-use mathlib.Core.Bool.{cond, _&&_}
+use mathlib.Core.Bool.{false, cond, _&&_}
 use mathlib.Core.List.{List}
 use lib.Dec.{leb}
 use lib.ListN.{take}
 use Rattle.memory.specs.Bytes.{begun}
 use Rattle.memory.specs.Counts.{countedUp}
 use Rattle.blocks.specs.Fram.{freshSums}
+use Rattle.carrying.specs.Ending.{isLimit}
 use Rattle.judging.specs.declared.Unit.{Unit}
 use Rattle.answer.specs.Answers.{numberOf, sentOf}
 use Rattle.unit.specs.World.{World, Outcome, withSums}
@@ -33,12 +34,12 @@ pub record Leaves (u : Unit) (w : World) (o : Outcome) : Type 0 where
   pub fram-length : o .unit .«fram_len» ≡ u .«fram_len»
   pub limit : o .unit .limit ≡ u .limit
 
--- The refusals of set-up: it has no 26.
-abbrev pub SetUpRefusal : ℕ → Type 0
-SetUpRefusal number = ((20 ≤ number) × (number ≤ 25)) ⊎ (number ≡ 29)
+-- The refusals of set-up, which has no 26: 20 to 25, or 29 where the limit is none.
+abbrev pub SetUpRefusal : ℕ → ℕ → Type 0
+SetUpRefusal limit number = ((20 ≤ number) × (number ≤ 25)) ⊎ ((number ≡ 29) × (isLimit limit ≡ false))
 
 -- What set-up leaves, by its answer. 0 computes all sums and changes nothing else that is lent; a refusal changes nothing at all and hands
 -- back a record that is never served.
 pub record SetUpLeaves (address limit : ℕ) (w : World) (o : Outcome) : Type 0 where
   pub set-up : numberOf (o .answer) ≡ 0 → (o .unit ≡ somebody address limit w) × (o .world ≡ withSums w (freshSums (w .fram)))
-  pub refused : (numberOf (o .answer) ≡ 0 → ⊥) → SetUpRefusal (numberOf (o .answer)) × (o .unit ≡ nobody) × (o .world ≡ w)
+  pub refused : (numberOf (o .answer) ≡ 0 → ⊥) → SetUpRefusal limit (numberOf (o .answer)) × (o .unit ≡ nobody) × (o .world ≡ w)

@@ -40,13 +40,14 @@ pub set-ups : (setUpFit 0x41 259 (lent 2068) ≡ Unfit BadLimit) × (setUpFit 0x
 unfolding setUpFit lengthsFit
 set-ups = (refl, refl, refl, refl, refl, refl, refl)
 
--- So does every byte, with the limit of its record. 26 is above 1,034 under every limit, and comes before 29.
+-- So does every byte, with the limit of its record. 26 is above 1,034 under every limit, and comes before 29; 25 comes before both.
 pub calls : (stepFit (unit 259 opened) (lent 2068) ≡ Unfit BadLimit) × (stepFit (unit 260 opened) (lent 2068) ≡ Fits) × (stepFit (unit 1028 opened) (lent 2068) ≡ Fits)
     × (stepFit (unit 1029 opened) (lent 2068) ≡ Unfit BadLimit) × (stepFit (unit 260 (at Run 1034)) (lent 2068) ≡ Fits)
     × (stepFit (unit 260 (at Run 1035)) (lent 2068) ≡ Unfit BadCount) × (stepFit (unit 259 (at Run 1035)) (lent 2068) ≡ Unfit BadCount)
-    × (stepFit (unit 259 (at Run 1034)) (lent 2068) ≡ Unfit BadLimit)
+    × (stepFit (unit 259 (at Run 1034)) (lent 2068) ≡ Unfit BadLimit) × (stepFit (unit 259 opened) (lent 2067) ≡ Unfit BadBuffers)
+    × (stepFit (unit 259 (at Run 1035)) (lent 2067) ≡ Unfit BadBuffers)
 unfolding stepFit lengthsFit
-calls = (refl, refl, refl, refl, refl, refl, refl, refl)
+calls = (refl, refl, refl, refl, refl, refl, refl, refl, refl, refl)
 
 -- a message buffer of zeros, and one byte received at a limit of 260
 abbrev zeros : List ℕ

@@ -56,11 +56,11 @@ limitFit limit = cond (isLimit limit) Fits (Unfit BadLimit)
 unfoldable pub setUpFit : ℕ → ℕ → Lengths → Fit
 setUpFit address limit l = lengthsFit address (framFits (l .fram)) l (limitFit limit)
 
--- After set-up, an FRAM length other than the one set up is 22. A receiver record with a count above 1,034 is 26, whatever the limit.
+-- After set-up, an FRAM length other than the one set up is 22.
 abbrev pub framAsSetUp : ℕ → ℕ → Bool
 framAsSetUp size setUp = framFits size && eqb size setUp
 
--- 26, then what comes after it.
+-- A receiver record with a count above 1,034 is 26, whatever the limit; then what comes after it.
 abbrev pub countFit : ℕ → Fit → Fit
 countFit count next = cond (leb count largestCount) next (Unfit BadCount)
 

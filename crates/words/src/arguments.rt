@@ -89,7 +89,7 @@ pub fn size() -> usize
     number as usize
 }
 
-// The limit that was asked for: the most data bytes of a message. Which no unit has is for the unit to say.
+// The limit that was asked for: the most data bytes of a message. Which limits no unit has is for the unit to say.
 pub fn limit() -> usize {
     argument(3, 1_028) as usize
 }

@@ -1,5 +1,6 @@
 -- `judging::run` meets its contract, by one law for each test. Assumes nothing.
 use mathlib.Core.Path.{sym, _∙_}
+use native.Mathlib.Omega.{arith}
 use borrow.Author.Tests.{not-true, not-false}
 use Rattle.judging.proofs.Ways.{a-runt, an-oversize, a-bad-crc, a-message-for-another, a-message-for-us}
 use borrow.Author.Needs.{needs}
@@ -10,7 +11,9 @@ returns : tie.Need-returns
 returns c = a-runt _ _ _ _ (c .if1 .taken)
 
 returns-2 : tie.Need-returns-2
-returns-2 c = an-oversize _ _ _ _ (c .before .if1 .left) (c .if2 .taken)
+returns-2 c =
+    let a = c .before .before .before .args in
+    an-oversize (a .largest) _ _ _ (c .before .if1 .left) (omega (arith, c .if2 .taken, c .before .before .before .pre))
 
 is-sound-requires : tie.Need-is-sound-requires
 is-sound-requires c κs = search needs

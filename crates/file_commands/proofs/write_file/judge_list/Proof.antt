@@ -3,6 +3,7 @@ use mathlib.Core.Path.{sym, _∙_}
 use native.Mathlib.Omega.{arith}
 use borrow.Author.Needs.{needs}
 use borrow.Author.Tests.{not-true, not-false}
+use Rattle.carrying.proofs.Limits.{within-both-ends}
 use Rattle.file_commands.proofs.Ways.{a-limit-of-no-bus, an-empty-list, a-list-too-long, a-list-of-some-length}
 use Rattle.file_commands.proofs.write_file.judge_list.Statement.{statement}
 use Rattle.file_commands.proofs.write_file.judge_list.Tie as tie
@@ -20,7 +21,10 @@ sub-if3 : tie.Need-sub-if3
 sub-if3 c = search needs
 
 returns-3 : tie.Need-returns-3
-returns-3 c = a-list-too-long (c .before .before .before .before .before .args .limit) (c .before .before .before .before .before .args .list .now) (c .before .before .before .before .before .args .start) (omega arith)
+returns-3 c =
+    let a = c .before .before .before .before .before .args in
+    let limited = sym (c .before .before .before .is-limit .ensures) ∙ not-false _ (c .before .before .if1 .left) in
+    a-list-too-long (a .limit) (a .list .now) (a .start) (omega (arith, within-both-ends (a .limit) limited .1))
 
 is-whole-requires : tie.Need-is-whole-requires
 is-whole-requires c κs = search needs
