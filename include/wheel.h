@@ -129,7 +129,8 @@ struct wheel_stepped wheel_step(struct wheel_unit unit, uint8_t byte, uint8_t *e
                                 size_t reply_len);
 
 /* A message of 5 to 1,033 bytes, its CRC already on it, as the line carries it: FEND at both ends, escapes between. It knows of
- * no limit: a unit drops a message that is longer than its limit + 5. The reply buffer is WHEEL_REPLY bytes or more, else WHEEL_BAD_BUFFERS; then WHEEL_BAD_LENGTH; both write nothing. */
+ * no limit: a unit drops a message that is longer than its limit + 5. The reply buffer is WHEEL_REPLY bytes or more, else
+ * WHEEL_BAD_BUFFERS; then WHEEL_BAD_LENGTH; both write nothing. */
 struct wheel_packed wheel_pack(const uint8_t *message, size_t message_len, uint8_t *reply, size_t reply_len);
 
 /* A WRITE FILE as two operations that need no unit. A list is the data of a WRITE FILE: for each file its address and four
