@@ -41,5 +41,5 @@ the-worked-examples-hold = record {
   P11 = (refl, refl, refl, refl, refl);
   P12 = (refl, refl, refl, refl, refl);
   T02 = ((refl, refl, refl, refl, refl), (refl, refl, refl, refl, refl));
-  T06 = (refl, (refl, refl, refl, refl, refl), (refl, refl, refl, refl, refl), (refl, refl, refl, refl, refl), (refl, refl, refl, refl, refl));
+  T06 = (refl, (refl, refl, refl, refl, refl), (refl, refl, refl, refl, refl), (refl, refl, refl, refl, refl));
 }

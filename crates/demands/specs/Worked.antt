@@ -138,12 +138,11 @@ pub record WorkedExamples : Type 0 where
       (initAnswers ++ replicate 12 0 ++ (1 ∷ []))
       (initReply ++ (0xC0 ∷ 0x11 ∷ 0x41 ∷ 0xAA ∷ 0x52 ∷ 0x00 ∷ 0xAA ∷ 0xBB ∷ 0x00 ∷ 0x00 ∷ 0xB6 ∷ 0x81 ∷ 0xC0 ∷ []))
       noCounts (stored withSpeed 0x052 (0xAA ∷ 0xBB ∷ []))
-  -- 02, T-06: a set-up at 259 is refused, and hands back a record of zeros. At a limit of 260 a run of 266 bytes is oversize, of which at 1,028 the CRC
-  -- is judged; and a PEEK of 257 bytes is refused, which at 1,028 is an access to memory not fitted.
+  -- 02, T-06: a set-up at 259 is refused, and hands back a record of zeros. At a limit of 260 a run of 266 bytes is oversize, and a PEEK of 257 bytes is
+  -- refused, which at 1,028 is an access to memory not fitted.
   pub T06 : (setUpOf 0x41 259 (lentWith zeros)
       ≡ outcome (record { address = 0; limit = 0; mode = Bootloader; «fram_len» = 0; receiver = record { place = Fresh; count = 0 } }) BadLimit (lentWith zeros))
       × ShowsAt 260 zeros (0xC0 ∷ (replicate 266 0x55 ++ (0xC0 ∷ []))) (replicate 267 0 ++ (7 ∷ [])) [] (onceAt 0x09) zeros
-      × Shows zeros (0xC0 ∷ (replicate 266 0x55 ++ (0xC0 ∷ []))) (replicate 267 0 ++ (8 ∷ [])) [] (onceAt 0x0A) zeros
       × ShowsAt 260 zeros (0xC0 ∷ 0x41 ∷ 0x11 ∷ 0x82 ∷ 0x00 ∷ 0x00 ∷ 0x04 ∷ 0x20 ∷ 0x01 ∷ 0x01 ∷ 0x61 ∷ 0xF7 ∷ 0xC0 ∷ []) (replicate 12 0 ++ (3 ∷ []))
       (0xC0 ∷ 0x11 ∷ 0x41 ∷ 0x82 ∷ 0x00 ∷ 0x00 ∷ 0x04 ∷ 0x20 ∷ 0x01 ∷ 0x01 ∷ 0x1F ∷ 0xD0 ∷ 0xC0 ∷ []) noCounts zeros
       × Shows zeros (0xC0 ∷ 0x41 ∷ 0x11 ∷ 0x82 ∷ 0x00 ∷ 0x00 ∷ 0x04 ∷ 0x20 ∷ 0x01 ∷ 0x01 ∷ 0x61 ∷ 0xF7 ∷ 0xC0 ∷ []) (replicate 12 0 ++ (10 ∷ [])) [] noCounts zeros
