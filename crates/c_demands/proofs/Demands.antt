@@ -20,7 +20,7 @@ use Rattle.memory.proofs.Tests.{either-side}
 use Rattle.read_only.proofs.Keeping.{kept-at-first, also-kept}
 use Rattle.blocks.specs.Fram.{Kept, kept, freshSums}
 use Rattle.carrying.specs.declared.Mode.the-variants.{Application}
-use Rattle.carrying.specs.Ending.{done}
+use Rattle.carrying.specs.Ending.{isLimit, done}
 use Rattle.carrying.specs.Held.{Held}
 use Rattle.file_commands.specs.WriteFile.{judgeListOf, Storage, storage, StoringLeaves}
 use Rattle.file_commands.proofs.Judging.{what-storing-leaves}
@@ -48,6 +48,7 @@ use Rattle.demands.proofs.DemandOne.{what-every-answer-leaves, what-set-up-leav
 use Rattle.demands.proofs.DemandTwo.{a-packed-message-stands-in-the-buffer}
 use Rattle.demands.proofs.Orders.{a-sent-command-is-carried-out, a-command-that-is-done-sends-its-data}
 use Rattle.demands.proofs.DemandThree.{the-limit-stays-and-the-count-stops-above-it, after-any-calls-the-sums-are-right, the-CRC-sent-is-fresh}
+use Rattle.demands.proofs.Limits.{with-no-limit-no-byte-is-served}
 use Rattle.demands.proofs.Keeping.{a-step-keeps-read-only-bytes, storing-keeps-read-only-bytes, a-set-up-keeps-edac}
 use Rattle.demands.proofs.Asking.{done-exactly-where-judged-fit, the-command-leaves-what-storing-leaves}
 use Rattle.c_demands.specs.FromC.{FromC, Steps, SetsUp, callOf, callsOf, LeavesInC, OnTheLine, Packs, bytesFromC, toBeSent, numbersOf, Follow, lastUnit, lastMemory, Judges, Stores, AnyFromC, setting-up, stepping, storing, OnOneEdac, lastEdac}
@@ -116,6 +117,13 @@ module _ (u : WheelUnit) (c : FromC) (steps : Steps u c) where
         fram-length = ap (λ (r : WheelUnit). r .«fram_len») back ∙ leaves .fram-length;
         limit = ap (λ (r : WheelUnit). r .limit) back ∙ leaves .limit;
       }
+
+  -- 02, T-06. A record with a limit outside 260 to 1,028 is refused, whatever else is lent, and nothing that was lent changes.
+  pub with-no-limit-no-byte-from-C-is-served : isLimit (u .limit) ≡ false → (20 ≤ c .back .answer) × (c .left ≡ c .lent)
+  with-no-limit-no-byte-from-C-is-served none =
+      let so = with-no-limit-no-byte-is-served (unitIn u) (c .byte) (c .lent) none in
+      let high = so .0 in
+      (omega (arith, number, high), left ∙ so .2)
 
 -- ---- demand 2
 
