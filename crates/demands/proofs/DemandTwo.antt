@@ -13,7 +13,7 @@ use lib.Seq.{take-append-seam, getD-append-add, getD-append-seam, length-take-le
 use Rattle.crc.specs.Sum.{start, byteStep, sumFrom, sumOf}
 use Rattle.crc.proofs.Halving.{byteStep-below}
 use Rattle.line.specs.Framing.{fend}
-use Rattle.line.specs.Packing.{bodyOf, packedOf, shortestMessage, messageSize, replySize}
+use Rattle.line.specs.Packing.{bodyOf, packedOf, shortestMessage, messageSize}
 use Rattle.line.specs.declared.receiver.Receiver.{Receiver}
 use Rattle.line.specs.declared.receiver.Heard.{Heard}
 use Rattle.line.specs.declared.receiver.Heard.the-variants as heard

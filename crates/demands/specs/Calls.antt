@@ -75,7 +75,7 @@ abbrev pub AllSuit : ℕ → ℕ → ℕ → List Call → Type 0
 AllSuit address setUp size [] = Prim.Unit {0}
 AllSuit address setUp size (d ∷ calls) = Suits address setUp size d × AllSuit address setUp size calls
 
--- A record that neither 26 nor 29 refuses: its count is at most 1,034, and its limit is one.
+-- A record that neither 26 nor 29 refuses: its count is at most 1,034, and its limit 260 to 1,028.
 abbrev pub Serves : Unit → Type 0
 Serves u = (u .receiver .count ≤ largestCount) × (isLimit (u .limit) ≡ true)
 

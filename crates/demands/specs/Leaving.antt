@@ -34,7 +34,7 @@ pub record Leaves (u : Unit) (w : World) (o : Outcome) : Type 0 where
   pub fram-length : o .unit .«fram_len» ≡ u .«fram_len»
   pub limit : o .unit .limit ≡ u .limit
 
--- The refusals of set-up, which has no 26: 20 to 25, or 29 where the limit is none.
+-- The refusals of set-up, which has no 26: 20 to 25, or 29 where the limit is outside 260 to 1,028.
 abbrev pub SetUpRefusal : ℕ → ℕ → Type 0
 SetUpRefusal limit number = ((20 ≤ number) × (number ≤ 25)) ⊎ ((number ≡ 29) × (isLimit limit ≡ false))
 

@@ -1,5 +1,4 @@
 -- `judging::fitting::record_fits` meets its contract, by its two tests. Assumes nothing.
-use mathlib.Core.Path.{_∙_}
 use borrow.Author.Needs.{needs}
 use borrow.Author.Tests.{le-leb, lt-leb}
 use Rattle.judging.proofs.fitting.record_fits.Statement.{statement}
