@@ -1,4 +1,4 @@
--- User FRAM with one kept sum for each block of 256 bytes: 01, "The unit and its neighbours", "Commands" (POKE, CRC) and
+-- FRAM with one kept sum for each block of 256 bytes, bootloader or user: 01, "The unit and its neighbours", "Commands" (POKE, CRC) and
 -- "How tight the contracts are". Assumes nothing.
 use Prim.Native.Nat.{ℕ, zero, suc, _+_, _-_, _*_, _/_, min, max}
 use mathlib.Core.Bool.{Bool, cond, _&&_}

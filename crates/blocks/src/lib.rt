@@ -1,4 +1,4 @@
-// User FRAM with one kept sum for each block of 256 bytes.
+// FRAM with one kept sum for each block of 256 bytes: bootloader FRAM and user FRAM are each one.
 mod gap;
 
 use crate::gap::across;

@@ -6,19 +6,28 @@ use Prim.Native.Nat.{ℕ}
 use Rattle.file_commands.specs.declared.write_file.Storing.{Storing}
 use Rattle.file_commands.specs.WriteFile.{Storage, storage, storeNumberOf, storageOf}
 use Rattle.unit.specs.World.{World, Outcome, outcomeOf}
-use Rattle.unit.specs.Steps.{stepOf}
+use Rattle.unit.specs.Steps.{setUpOf, stepOf}
 use Rattle.judging.specs.declared.Unit.{Unit}
 use Rattle.unit.specs.declared.Stepped.{Stepped}
 use Rattle.board.specs.declared.WheelStepped.{WheelStepped}
 use Rattle.board.specs.Face.{yesOut}
 use Rattle.board.specs.Records.{steppedOut, returned, returnedBy}
 
-pub passed-on
+passed-on
     : (r : WheelStepped) (stepped : Stepped) (after : World) (o : Outcome)
     → r ≡ steppedOut (stepped .unit) (stepped .answer)
     → outcomeOf stepped after ≡ o
     → returned r after ≡ returnedBy o
 passed-on r stepped after o e due = ap (λ s. returned s after) e ∙ ap returnedBy due
+
+pub a-set-up-passed-on
+    : (r : WheelStepped) (stepped : Stepped) (after : World) (address limit : ℕ) (locked meant : Bool) (before : World)
+    → r ≡ steppedOut (stepped .unit) (stepped .answer)
+    → outcomeOf stepped after ≡ setUpOf address limit locked before
+    → locked ≡ meant
+    → returned r after ≡ returnedBy (setUpOf address limit meant before)
+a-set-up-passed-on r stepped after address limit locked meant before e due same =
+    passed-on r stepped after (setUpOf address limit meant before) e (due ∙ ap (λ b. setUpOf address limit b before) same)
 
 pub a-step-passed-on
     : (r : WheelStepped) (stepped : Stepped) (after : World) (u meant : Unit) (byte : ℕ) (before : World)

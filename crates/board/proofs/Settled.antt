@@ -1,6 +1,7 @@
 -- The contracts of set-up, of a byte and of packing allow one outcome each, and a record that goes to C comes back as it was.
 -- Assumes nothing.
 use mathlib.Core.Path.{_≡_, refl, sym, ap, _∙_}
+use mathlib.Core.Bool.{Bool, true, false}
 use mathlib.Core.List.{List}
 use Prim.Native.Nat.{ℕ}
 use Rattle.line.specs.Packing.{Packing}
@@ -12,7 +13,7 @@ use Rattle.unit.specs.World.{World, Outcome}
 use Rattle.judging.specs.declared.Unit.{Unit}
 use Rattle.board.specs.declared.WheelStepped.{WheelStepped}
 use Rattle.board.specs.declared.WheelPacked.{WheelPacked}
-use Rattle.board.specs.Records.{modeIn, modeOut, placeIn, placeOut, unitIn, unitOut, Returned, returned, returnedBy, packingBy}
+use Rattle.board.specs.Records.{modeIn, modeOut, placeIn, placeOut, lockIn, lockOut, unitIn, unitOut, Returned, returned, returnedBy, packingBy}
 
 pub a-call-allows-one-outcome
     : (o : Outcome) (r s : WheelStepped) (v w : World)
@@ -44,6 +45,10 @@ a-place-comes-back Run = refl
 a-place-comes-back Escape = refl
 a-place-comes-back Fault = refl
 
+a-lock-comes-back : (locked : Bool) → lockIn (lockOut locked) ≡ locked
+a-lock-comes-back false = refl
+a-lock-comes-back true = refl
+
 -- C can hand a record from one call to the next: it means the unit that the call left.
 pub a-record-comes-back : (u : Unit) → unitIn (unitOut u) ≡ u
-a-record-comes-back u = rw (a-mode-comes-back (u .mode), a-place-comes-back (u .receiver .place))
+a-record-comes-back u = rw (a-mode-comes-back (u .mode), a-lock-comes-back (u .locked), a-place-comes-back (u .receiver .place))

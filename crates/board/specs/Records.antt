@@ -1,7 +1,7 @@
--- The unit's record and its answers as C has them: numbers for a mode, for a receiver's place and for an answer. Every number of C means
+-- The unit's record and its answers as C has them: numbers for a mode, for a receiver's place, for a lock and for an answer. Every number of C means
 -- something, so that C can lend any record. Assumes nothing.
 use Prim.Native.Nat.{ℕ}
-use mathlib.Core.Bool.{cond}
+use mathlib.Core.Bool.{Bool, true, false, cond, not}
 use mathlib.Core.List.{List}
 use lib.Dec.{eqb}
 use Rattle.line.specs.Packing.{Packing}
@@ -35,24 +35,36 @@ placeOut Run = 1
 placeOut Escape = 2
 placeOut Fault = 3
 
+-- 0 is unlocked, and any other number locked.
+abbrev pub lockIn : ℕ → Bool
+lockIn number = not (eqb number 0)
+
+abbrev pub lockOut : Bool → ℕ
+lockOut false = 0
+lockOut true = 1
+
 -- A unit's record as it comes from C, and as it goes to C.
 abbrev pub unitIn : WheelUnit → Unit
 unitIn u = record {
   address = u .address;
   limit = u .limit;
   mode = modeIn (u .mode);
+  locked = lockIn (u .locked);
+  «bootloader_len» = u .«bootloader_len»;
   «fram_len» = u .«fram_len»;
   receiver = record { place = placeIn (u .place); count = u .count };
 }
 
 abbrev pub unitOut : Unit → WheelUnit
 unitOut u = record {
+  «bootloader_len» = u .«bootloader_len»;
   «fram_len» = u .«fram_len»;
   count = u .receiver .count;
   limit = u .limit;
   address = u .address;
   mode = modeOut (u .mode);
   place = placeOut (u .receiver .place);
+  locked = lockOut (u .locked);
 }
 
 -- An answer with the unit's record as they go to C: 01's number, and the bytes sent.

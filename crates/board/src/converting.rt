@@ -9,7 +9,7 @@ use line::receiver::Receiver;
 use unit::Stepped;
 use unit::Unit;
 ghost use mathlib.Core.Path.{_≡_};
-ghost use Rattle.board.specs.Records.{modeIn, modeOut, placeIn, placeOut, unitIn, unitOut, steppedOut};
+ghost use Rattle.board.specs.Records.{modeIn, modeOut, placeIn, placeOut, lockIn, lockOut, unitIn, unitOut, steppedOut};
 
 fn mode_in(number: u8) -> Mode
     ensures { λ r. ⌜ r ≡ modeIn number ⌝ }
@@ -56,6 +56,18 @@ fn place_out(place: Place) -> u8
     }
 }
 
+pub fn lock_in(number: u8) -> bool
+    ensures { λ r. ⌜ r ≡ lockIn number ⌝ }
+{
+    number != 0
+}
+
+fn lock_out(locked: bool) -> u8
+    ensures { λ r. ⌜ r ≡ lockOut locked ⌝ }
+{
+    if locked { 1 } else { 0 }
+}
+
 pub fn unit_in(lent: WheelUnit) -> Unit
     ensures { λ r. ⌜ r ≡ unitIn lent ⌝ }
 {
@@ -65,6 +77,8 @@ pub fn unit_in(lent: WheelUnit) -> Unit
         address: lent.address,
         limit: lent.limit,
         mode,
+        locked: lock_in(lent.locked),
+        bootloader_len: lent.bootloader_len as usize,
         fram_len: lent.fram_len as usize,
         receiver: Receiver {
             place,
@@ -80,12 +94,14 @@ fn unit_out(held: Unit) -> WheelUnit
     let receiver = held.receiver;
     let place = receiver.place;
     WheelUnit {
+        bootloader_len: held.bootloader_len as u64,
         fram_len: held.fram_len as u64,
         count: receiver.count as u64,
         limit: held.limit,
         address: held.address,
         mode: mode_out(mode),
         place: place_out(place),
+        locked: lock_out(held.locked),
     }
 }
 

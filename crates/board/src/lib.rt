@@ -5,12 +5,14 @@ pub mod converting;
 ghost use mathlib.Core.Path.{_≡_};
 ghost use Rattle.crc.specs.Sum.{sumFrom, sumOf};
 ghost use Rattle.crc.specs.Joining.{joinOf};
+ghost use Rattle.blocks.specs.Fram.{kept};
 ghost use Rattle.board.specs.Face.{partIn, joinedOut, yesOut};
 ghost use Rattle.line.specs.Packing.{packOf};
 ghost use Rattle.file_commands.specs.WriteFile.{judgeListOf, storage, storeListOf};
 ghost use Rattle.unit.specs.World.{world};
 ghost use Rattle.unit.specs.Steps.{setUpOf, stepOf};
-ghost use Rattle.board.specs.Records.{unitIn, returned, returnedBy, packingBy};
+ghost use Rattle.board.specs.Records.{lockIn, unitIn, returned, returnedBy, packingBy};
+use converting::lock_in;
 use converting::stepped_out;
 use converting::unit_in;
 use crc::Joined;
@@ -34,15 +36,17 @@ pub struct WheelJoined {
     pub part: WheelPart,
 }
 
-// A unit's record as C holds it: mode and place by their numbers. The narrow fields come last, so that there is no gap between two.
+// A unit's record as C holds it: mode, place and lock by their numbers. The narrow fields come last, so that there is no gap between two.
 #[repr(C)]
 pub struct WheelUnit {
+    pub bootloader_len: u64,
     pub fram_len: u64,
     pub count: u64,
     pub limit: u16,
     pub address: u8,
     pub mode: u8,
     pub place: u8,
+    pub locked: u8,
 }
 
 // The unit's record afterwards, how many bytes of the reply buffer are to be sent, and 01's number of the answer.
@@ -106,18 +110,33 @@ pub extern "C" fn wheel_join(first: WheelPart, second: WheelPart) -> WheelJoined
 pub extern "C" fn wheel_set_up(
     address: u8,
     limit: u64,
+    locked: u8,
     edac: &[u8],
+    bootloader: &[u8],
+    bootloader_sums: &mut [u16],
     fram: &[u8],
     sums: &mut [u16],
-    diagnostics: &[u32],
+    diagnostics: &mut [u32],
     message: &[u8],
     reply: &[u8],
 ) -> WheelStepped
-    ensures { λ r. ⌜ returned r (world (now (edac .entry)) (now (fram .entry)) (now (sums .exit)) (now (diagnostics .entry)) (now (message .entry)) (now (reply .entry)))
-        ≡ returnedBy (setUpOf address limit (world (now (edac .entry)) (now (fram .entry)) (now (sums .entry)) (now (diagnostics .entry)) (now (message .entry)) (now (reply .entry)))) ⌝ }
+    ensures { λ r. ⌜ returned r (world (now (edac .entry)) (kept (now (bootloader .entry)) (now («bootloader_sums» .exit))) (kept (now (fram .entry)) (now (sums .exit))) (now (diagnostics .exit)) (now (message .entry)) (now (reply .entry)))
+        ≡ returnedBy (setUpOf address limit (lockIn locked) (world (now (edac .entry)) (kept (now (bootloader .entry)) (now («bootloader_sums» .entry))) (kept (now (fram .entry)) (now (sums .entry))) (now (diagnostics .entry)) (now (message .entry)) (now (reply .entry)))) ⌝ }
 {
     let most = limit as usize;
-    stepped_out(unit::set_up(address, most, edac, fram, sums, diagnostics, message, reply))
+    stepped_out(unit::set_up(
+        address,
+        most,
+        lock_in(locked),
+        edac,
+        bootloader,
+        bootloader_sums,
+        fram,
+        sums,
+        diagnostics,
+        message,
+        reply,
+    ))
 }
 
 #[no_mangle]
@@ -125,19 +144,23 @@ pub extern "C" fn wheel_step(
     unit: WheelUnit,
     byte: u8,
     edac: &mut [u8],
+    bootloader: &mut [u8],
+    bootloader_sums: &mut [u16],
     fram: &mut [u8],
     sums: &mut [u16],
     diagnostics: &mut [u32],
     message: &mut [u8],
     reply: &mut [u8],
 ) -> WheelStepped
-    ensures { λ r. ⌜ returned r (world (now (edac .exit)) (now (fram .exit)) (now (sums .exit)) (now (diagnostics .exit)) (now (message .exit)) (now (reply .exit)))
-        ≡ returnedBy (stepOf (unitIn unit) byte (world (now (edac .entry)) (now (fram .entry)) (now (sums .entry)) (now (diagnostics .entry)) (now (message .entry)) (now (reply .entry)))) ⌝ }
+    ensures { λ r. ⌜ returned r (world (now (edac .exit)) (kept (now (bootloader .exit)) (now («bootloader_sums» .exit))) (kept (now (fram .exit)) (now (sums .exit))) (now (diagnostics .exit)) (now (message .exit)) (now (reply .exit)))
+        ≡ returnedBy (stepOf (unitIn unit) byte (world (now (edac .entry)) (kept (now (bootloader .entry)) (now («bootloader_sums» .entry))) (kept (now (fram .entry)) (now (sums .entry))) (now (diagnostics .entry)) (now (message .entry)) (now (reply .entry)))) ⌝ }
 {
     stepped_out(unit::step(
         unit_in(unit),
         byte,
         edac,
+        bootloader,
+        bootloader_sums,
         fram,
         sums,
         diagnostics,

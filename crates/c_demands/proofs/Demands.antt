@@ -18,10 +18,10 @@ use Rattle.memory.specs.Bytes.{stretch, begun}
 use Rattle.read_only.specs.ReadOnly.{KeepsReadOnly}
 use Rattle.memory.proofs.Tests.{either-side}
 use Rattle.read_only.proofs.Keeping.{kept-at-first, also-kept}
-use Rattle.blocks.specs.Fram.{Kept, kept, freshSums}
 use Rattle.carrying.specs.declared.Mode.the-variants.{Application}
 use Rattle.carrying.specs.Ending.{isLimit, done}
-use Rattle.carrying.specs.Held.{Held}
+use Rattle.carrying.specs.Held.{Frams, Which, framOf, Held}
+use Rattle.fram_commands.specs.Windows.{firstOf}
 use Rattle.file_commands.specs.WriteFile.{judgeListOf, Storage, storage, StoringLeaves}
 use Rattle.file_commands.proofs.Judging.{what-storing-leaves}
 use Rattle.answer.specs.Answers.{numberOf, sentOf}
@@ -32,16 +32,17 @@ use Rattle.judging.specs.declared.fitting.Fit.the-variants.{Fits, Unfit}
 use Rattle.judging.specs.Fitting.{setUpFit}
 use Rattle.judging.specs.Judging.{largestMessage, withReceiver}
 use Rattle.replying.specs.Replies.{codeOf, polls, replyMessage}
-use Rattle.unit.specs.World.{World, lengthsOf, Outcome, withMessage, withSums}
-use Rattle.unit.specs.Steps.{nobody, somebody, firstOfFram, setUpAs, setUpOf, answered, stepOf}
+use Rattle.unit.specs.World.{World, lengthsOf, Outcome, withFrams, withMessage}
+use Rattle.unit.specs.Steps.{nobody, somebody, preparedFor, setUpAs, setUpOf, answered, stepOf}
 use Rattle.board.specs.declared.WheelUnit.{WheelUnit}
 use Rattle.board.specs.declared.WheelStepped.{WheelStepped}
 use Rattle.board.specs.declared.WheelPacked.{WheelPacked}
 use Rattle.board.specs.Face.{yesOut}
-use Rattle.board.specs.Records.{modeOut, unitIn, unitOut, Returned, returned, returnedBy}
+use Rattle.board.specs.Records.{modeOut, lockIn, lockOut, unitIn, unitOut, Returned, returned, returnedBy}
 use Rattle.board.proofs.Settled.{a-record-comes-back}
-use Rattle.demands.specs.Calls.{Fed, lentTo, fedOf, bytesOf, delivering, Suits, AllSuit, Serves, Idle, Lending, its-memory, Own, own, ownOf, withMemory, calledOf, Right, Inside}
-use Rattle.demands.specs.Leaving.{countsAfter, SetUpRefusal}
+use Rattle.demands.specs.Calls.{Fed, lentTo, fedOf, bytesOf, delivering, Suits, AllSuit, Serves, Idle, Lending, its-memory, Own, own, ownOf, calledOf, Right, Inside}
+use Rattle.demands.specs.Locking.{locks}
+use Rattle.demands.specs.Leaving.{diagnosticsAfter, SetUpRefusal}
 use Rattle.demands.specs.Orders.{SendsUpTo, Sends, withItsMessage, leftBy, sentBy, doneAnswer, cameTo}
 use Rattle.demands.proofs.Cases.{a-refused-set-up-has-its-number, a-refused-set-up-is-no-0}
 use Rattle.demands.proofs.DemandOne.{what-every-answer-leaves, what-set-up-leaves}
@@ -50,8 +51,9 @@ use Rattle.demands.proofs.Orders.{a-sent-command-is-carried-out, a-command-that
 use Rattle.demands.proofs.DemandThree.{the-limit-stays-and-the-count-stops-above-it, after-any-calls-the-sums-are-right, the-CRC-sent-is-fresh}
 use Rattle.demands.proofs.Limits.{with-no-limit-no-byte-is-served}
 use Rattle.demands.proofs.Keeping.{a-step-keeps-read-only-bytes, storing-keeps-read-only-bytes, a-set-up-keeps-edac}
+use Rattle.demands.proofs.Locked.{once-locked-no-bytes-change-bootloader-FRAM}
 use Rattle.demands.proofs.Asking.{done-exactly-where-judged-fit, the-command-leaves-what-storing-leaves}
-use Rattle.c_demands.specs.FromC.{FromC, Steps, SetsUp, callOf, callsOf, LeavesInC, OnTheLine, Packs, bytesFromC, toBeSent, numbersOf, Follow, lastUnit, lastMemory, Judges, Stores, AnyFromC, setting-up, stepping, storing, OnOneEdac, lastEdac}
+use Rattle.c_demands.specs.FromC.{FromC, Steps, SetsUp, callOf, callsOf, LeavesInC, OnTheLine, Packs, bytesFromC, toBeSent, numbersOf, Follow, lastUnit, lastFrams, Judges, Stores, AnyFromC, setting-up, stepping, storing, OnOneEdac, lastEdac}
 
 -- ---- lists
 
@@ -105,15 +107,19 @@ module _ (u : WheelUnit) (c : FromC) (steps : Steps u c) where
         memory-unless-a-command-is-done = λ one two.
             let all = leaves .memory-unless-a-command-is-done (λ e. one (number ∙ e)) (λ e. two (number ∙ e)) in (
               ap (λ (w : World). w .edac) left ∙ all .0,
-              ap (λ (w : World). w .fram) left ∙ all .1,
-              ap (λ (w : World). w .sums) left ∙ all .2,
-              ap (λ (r : WheelUnit). r .mode) back ∙ ap modeOut (all .3),
+              ap (λ (w : World). w .frams) left ∙ all .1,
+              ap (λ (r : WheelUnit). r .mode) back ∙ ap modeOut (all .2),
+              ap (λ (r : WheelUnit). r .locked) back ∙ ap lockOut (all .3),
             );
-        counts = ap (λ (w : World). w .diagnostics) left ∙ leaves .counts ∙ ap (λ (n : ℕ). countsAfter n (c .lent .diagnostics)) (sym number);
+        counts =
+            ap (λ (w : World). w .diagnostics) left ∙ leaves .counts
+            ∙ ap (λ (n : ℕ). diagnosticsAfter (locks (unitIn u) (c .byte) (c .lent)) n (c .lent .diagnostics)) (sym number);
+        lock = ap (λ (r : WheelUnit). r .locked) back ∙ ap lockOut (leaves .lock);
         reply =
-            ap (λ (w : World). w .reply) left ∙ leaves .reply
-            ∙ sym (ap₂ (λ (n : ℕ) (w : World). begun (c .lent .reply) (take n (w .reply))) size left);
+            ap (λ (w : World). w .buffers .reply) left ∙ leaves .reply
+            ∙ sym (ap₂ (λ (n : ℕ) (w : World). begun (c .lent .buffers .reply) (take n (w .buffers .reply))) size left);
         address = ap (λ (r : WheelUnit). r .address) back ∙ leaves .address;
+        bootloader-length = ap (λ (r : WheelUnit). r .«bootloader_len») back ∙ leaves .bootloader-length;
         fram-length = ap (λ (r : WheelUnit). r .«fram_len») back ∙ leaves .fram-length;
         limit = ap (λ (r : WheelUnit). r .limit) back ∙ leaves .limit;
       }
@@ -136,11 +142,11 @@ the-line-from-C u message [] c on = (refl, on .1 ∙ ap (λ l. returnedBy (stepO
 the-line-from-C u message (d ∷ calls) c on =
     let lent : stepOf (unitIn u) (d .byte) (d .lent) ≡ stepOf (unitIn u) (d .byte) (lentTo message (callOf d))
     = ap (λ l. stepOf (unitIn u) (d .byte) (withMessage (d .lent) l)) (on .0) in
-    let rest = the-line-from-C (d .back .unit) (d .left .message) calls c (on .2) in
-    let same : fedOf (unitIn (d .back .unit)) (d .left .message) (callsOf calls) (callOf c)
-    ≡ fedOf (stepOf (unitIn u) (d .byte) (lentTo message (callOf d)) .unit) (stepOf (unitIn u) (d .byte) (lentTo message (callOf d)) .world .message) (callsOf calls) (callOf c)
+    let rest = the-line-from-C (d .back .unit) (d .left .buffers .message) calls c (on .2) in
+    let same : fedOf (unitIn (d .back .unit)) (d .left .buffers .message) (callsOf calls) (callOf c)
+    ≡ fedOf (stepOf (unitIn u) (d .byte) (lentTo message (callOf d)) .unit) (stepOf (unitIn u) (d .byte) (lentTo message (callOf d)) .world .buffers .message) (callsOf calls) (callOf c)
     = ap₂ (λ (v : Unit) (l : List ℕ). fedOf v l (callsOf calls) (callOf c))
-    (next u d (on .1) ∙ ap (λ (x : Outcome). x .unit) lent) (ap (λ (w : World). w .message) (left u d (on .1) ∙ ap (λ (x : Outcome). x .world) lent)) in (
+    (next u d (on .1) ∙ ap (λ (x : Outcome). x .unit) lent) (ap (λ (w : World). w .buffers .message) (left u d (on .1) ∙ ap (λ (x : Outcome). x .world) lent)) in (
       ap₂ (λ (n : ℕ) l. n ∷ l) (number u d (on .1) ∙ ap (λ (x : Outcome). numberOf (x .answer)) lent) (rest .0 ∙ ap (λ (f : Fed). map numberOf (f .answers)) same),
       rest .1 ∙ ap (λ (f : Fed). returnedBy (f .last)) same,
     )
@@ -177,15 +183,15 @@ module _ (u : WheelUnit) (message : List ℕ) (calls : List FromC) (c : FromC) (
     pub a-command-from-C-is-answered : polls control ≡ true → (reply : List ℕ) (after : Held) → cameTo (unitIn u) (callOf c) control field ≡ done reply after
         → toBeSent c ≡ packedOf (replyMessage 1 (u .address) source control reply)
     a-command-from-C-is-answered polled reply after came =
-        ap (λ (r : Returned). take (r .stepped .sent) (r .world .reply)) (the-line-from-C u message calls c on .1)
+        ap (λ (r : Returned). take (r .stepped .sent) (r .world .buffers .reply)) (the-line-from-C u message calls c on .1)
         ∙ a-command-that-is-done-sends-its-data (unitIn u) message source control field (callsOf calls) (callOf c) sends polled reply after came
 
   -- The round trip. What `wheel_pack` packs, if it is no longer than the unit's limit allows, given so to a unit that has nothing open, by calls
   -- that are served, stands in the message buffer byte for byte when the last byte has come, whether the unit takes it for sound or not.
   pub what-is-packed-from-C-is-received-back : (m before : List ℕ) (said : WheelPacked) (packed : List ℕ) → Packs m before said packed → said .answer ≡ 0
       → bytesFromC calls c ≡ take (said .sent) packed → length m ≤ largestMessage (u .limit) → Serves (unitIn u) → Idle (unitIn u .receiver)
-      → AllSuit (u .address) (u .«fram_len») (length message) (callsOf calls) → Suits (u .address) (u .«fram_len») (length message) (callOf c)
-      → c .left .message ≡ m ++ drop (length m) message
+      → AllSuit (unitIn u) (length message) (callsOf calls) → Suits (unitIn u) (length message) (callOf c)
+      → c .left .buffers .message ≡ m ++ drop (length m) message
   what-is-packed-from-C-is-received-back m before said packed packs none bytes within serves idle all last =
       let legal = packed-so m before (sym (ap (λ (p : Packing). p .answer) packs) ∙ none) in
       let written : take (said .sent) packed ≡ packedOf m
@@ -193,7 +199,7 @@ module _ (u : WheelUnit) (message : List ℕ) (calls : List FromC) (c : FromC) (
       ∙ take-append-seam (packedOf m) (drop (length (packedOf m)) before) in
       let split = last-apart (bytesOf (callsOf calls)) (fend ∷ bodyOf m) (c .byte) fend (bytes ∙ written) in
       let few = legal .1 in
-      ap (λ (r : Returned). r .world .message) (the-line-from-C u message calls c on .1)
+      ap (λ (r : Returned). r .world .buffers .message) (the-line-from-C u message calls c on .1)
       ∙ a-packed-message-stands-in-the-buffer (unitIn u) message (callsOf calls) (callOf c) serves all last (split .1) m (omega arith) within idle (split .0)
 
 -- ---- demand 3
@@ -202,91 +208,104 @@ asLending : List FromC → List Lending
 asLending [] = []
 asLending (c ∷ calls) = its-memory (callOf c) ∷ asLending calls
 
--- the record and the memory that calls from C leave are those that demands speaks of
-calls-from-C : (calls : List FromC) (u : WheelUnit) (memory : Kept) → Follow u memory calls
-    → own (unitIn (lastUnit u calls)) (lastMemory memory calls) ≡ calledOf (own (unitIn u) memory) (asLending calls)
+-- the record and the FRAMs that calls from C leave are those that demands speaks of
+calls-from-C : (calls : List FromC) (u : WheelUnit) (now : Frams) → Follow u now calls
+    → own (unitIn (lastUnit u calls)) (lastFrams now calls) ≡ calledOf (own (unitIn u) now) (asLending calls)
 unfolding asLending
-calls-from-C [] u memory follow = refl
-calls-from-C (c ∷ calls) u memory follow =
-    let lent : stepOf (unitIn u) (c .byte) (c .lent) ≡ stepOf (unitIn u) (c .byte) (withMemory (c .lent) memory)
-    = ap (λ (k : Kept). stepOf (unitIn u) (c .byte) (withMemory (c .lent) k)) (follow .0) in
-    calls-from-C calls (c .back .unit) (kept (c .left .fram) (c .left .sums)) (follow .2)
-    ∙ ap₂ (λ (v : Unit) (w : World). calledOf (own v (kept (w .fram) (w .sums))) (asLending calls))
+calls-from-C [] u now follow = refl
+calls-from-C (c ∷ calls) u now follow =
+    let lent : stepOf (unitIn u) (c .byte) (c .lent) ≡ stepOf (unitIn u) (c .byte) (withFrams (c .lent) now)
+    = ap (λ (f : Frams). stepOf (unitIn u) (c .byte) (withFrams (c .lent) f)) (follow .0) in
+    calls-from-C calls (c .back .unit) (c .left .frams) (follow .2)
+    ∙ ap₂ (λ (v : Unit) (w : World). calledOf (own v (w .frams)) (asLending calls))
     (next u c (follow .1) ∙ ap (λ (x : Outcome). x .unit) lent) (left u c (follow .1) ∙ ap (λ (x : Outcome). x .world) lent)
 
 -- a set-up that answers 0 is not refused
-set-up-so : (address limit : ℕ) (w : World) → numberOf (setUpOf address limit w .answer) ≡ 0 → setUpFit address limit (lengthsOf w) ≡ Fits
+set-up-so : (address limit : ℕ) (locked : Bool) (w : World) → numberOf (setUpOf address limit locked w .answer) ≡ 0 → setUpFit address limit (lengthsOf w) ≡ Fits
 unfolding setUpOf
-set-up-so address limit w none = apart (setUpFit address limit (lengthsOf w)) refl none
+set-up-so address limit locked w none = apart (setUpFit address limit (lengthsOf w)) refl none
   where
-    apart : (f : Fit) → setUpFit address limit (lengthsOf w) ≡ f → numberOf (setUpAs f address limit w .answer) ≡ 0 → f ≡ Fits
+    apart : (f : Fit) → setUpFit address limit (lengthsOf w) ≡ f → numberOf (setUpAs f address limit locked w .answer) ≡ 0 → f ≡ Fits
     apart Fits e z = refl
     apart (Unfit answer) e z = absurd (a-refused-set-up-is-no-0 limit (numberOf answer) (a-refused-set-up-has-its-number address limit (lengthsOf w) answer e) z)
 
--- Demand 1, of `wheel_set_up`: 0 computes all sums and changes nothing else that is lent; 20 to 25 and 29 change nothing at all.
-pub what-a-set-up-from-C-leaves : (address limit : ℕ) (lent : World) (back : WheelStepped) (after : World) → SetsUp address limit lent back after
-    → (back .answer ≡ 0 → (back .unit ≡ unitOut (somebody address limit lent)) × (after ≡ withSums lent (freshSums (lent .fram))))
+-- Demand 1, of `wheel_set_up`: 0 computes all sums, writes the low byte of diagnostic 0x06 and changes nothing else that is lent; 20 to 25 and 29
+-- change nothing at all.
+pub what-a-set-up-from-C-leaves : (address limit locked : ℕ) (lent : World) (back : WheelStepped) (after : World) → SetsUp address limit locked lent back after
+    → (back .answer ≡ 0 → (back .unit ≡ unitOut (somebody address limit (lockIn locked) lent)) × (after ≡ preparedFor (lockIn locked) lent))
     × ((back .answer ≡ 0 → ⊥) → SetUpRefusal limit (back .answer) × (back .unit ≡ unitOut nobody) × (after ≡ lent))
-what-a-set-up-from-C-leaves address limit lent back after sets-up =
-    let leaves = what-set-up-leaves address limit lent in
-    let number : back .answer ≡ numberOf (setUpOf address limit lent .answer) = ap (λ (r : Returned). r .stepped .answer) sets-up in
-    let unit : back .unit ≡ unitOut (setUpOf address limit lent .unit) = ap (λ (r : Returned). r .stepped .unit) sets-up in
-    let left : after ≡ setUpOf address limit lent .world = ap (λ (r : Returned). r .world) sets-up in (
+what-a-set-up-from-C-leaves address limit locked lent back after sets-up =
+    let leaves = what-set-up-leaves address limit (lockIn locked) lent in
+    let o = setUpOf address limit (lockIn locked) lent in
+    let number : back .answer ≡ numberOf (o .answer) = ap (λ (r : Returned). r .stepped .answer) sets-up in
+    let unit : back .unit ≡ unitOut (o .unit) = ap (λ (r : Returned). r .stepped .unit) sets-up in
+    let left : after ≡ o .world = ap (λ (r : Returned). r .world) sets-up in (
       (λ none. let both = leaves .set-up (sym number ∙ none) in (unit ∙ ap unitOut (both .0), left ∙ both .1)),
       (λ other.
           let all = leaves .refused (λ none. other (number ∙ none)) in
           (subst (SetUpRefusal limit) (sym number) (all .0), unit ∙ ap unitOut (all .1), left ∙ all .2)),
     )
 
--- `wheel_set_up` answered 0. After any calls of `wheel_step`, each with the record that the one before gave back, and with FRAM and sums
+-- `wheel_set_up` answered 0. After any calls of `wheel_step`, each with the record that the one before gave back, and with FRAMs and sums
 -- that nobody else altered:
-module _ (address limit : ℕ) (lent : World) (back : WheelStepped) (after : World) (sets-up : SetsUp address limit lent back after) (served : back .answer ≡ 0)
-    (calls : List FromC) (follow : Follow (back .unit) (kept (after .fram) (after .sums)) calls) where
-  abbrev memory : Kept
-  memory = lastMemory (kept (after .fram) (after .sums)) calls
+module _ (address limit locked : ℕ) (lent : World) (back : WheelStepped) (after : World) (sets-up : SetsUp address limit locked lent back after) (served : back .answer ≡ 0)
+    (calls : List FromC) (follow : Follow (back .unit) (after .frams) calls) where
+  abbrev frams-now : Frams
+  frams-now = lastFrams (after .frams) calls
 
   abbrev record-now : WheelUnit
   record-now = lastUnit (back .unit) calls
 
   fits : setUpFit address limit (lengthsOf lent) ≡ Fits
-  fits = set-up-so address limit lent (sym (ap (λ (r : Returned). r .stepped .answer) sets-up) ∙ served)
+  fits = set-up-so address limit (lockIn locked) lent (sym (ap (λ (r : Returned). r .stepped .answer) sets-up) ∙ served)
 
-  now : own (unitIn record-now) memory ≡ calledOf (ownOf (setUpOf address limit lent)) (asLending calls)
+  now : own (unitIn record-now) frams-now ≡ calledOf (ownOf (setUpOf address limit (lockIn locked) lent)) (asLending calls)
   now =
-      calls-from-C calls (back .unit) (kept (after .fram) (after .sums)) follow
-      ∙ ap₂ (λ (v : Unit) (w : World). calledOf (own v (kept (w .fram) (w .sums))) (asLending calls))
-      (ap unitIn (ap (λ (r : Returned). r .stepped .unit) sets-up) ∙ a-record-comes-back (setUpOf address limit lent .unit))
+      calls-from-C calls (back .unit) (after .frams) follow
+      ∙ ap₂ (λ (v : Unit) (w : World). calledOf (own v (w .frams)) (asLending calls))
+      (ap unitIn (ap (λ (r : Returned). r .stepped .unit) sets-up) ∙ a-record-comes-back (setUpOf address limit (lockIn locked) lent .unit))
       (ap (λ (r : Returned). r .world) sets-up)
 
   -- The record's limit is the one that was set up, and its count never passes limit + 6 (02, T-06);
   pub the-limit-stays-from-C-and-the-count-stops-above-it : (record-now .limit ≡ limit) × (record-now .count ≤ limit + 6)
   the-limit-stays-from-C-and-the-count-stops-above-it =
       subst (λ (s : Own). (s .unit .limit ≡ limit) × (s .unit .receiver .count ≤ limit + 6)) (sym now)
-      (the-limit-stays-and-the-count-stops-above-it address limit lent fits (asLending calls))
+      (the-limit-stays-and-the-count-stops-above-it address limit (lockIn locked) lent fits (asLending calls))
 
-  -- Demand 3: each kept sum is the CRC of its block as it now stands;
-  pub after-any-calls-from-C-the-sums-are-right : Right memory
-  after-any-calls-from-C-the-sums-are-right = subst (λ (s : Own). Right (s .memory)) (sym now) (after-any-calls-the-sums-are-right address limit lent fits (asLending calls))
+  -- Demand 3: each kept sum is the CRC of its block as it now stands, in both FRAMs;
+  pub after-any-calls-from-C-the-sums-are-right : (which : Which) → Right (framOf which frams-now)
+  after-any-calls-from-C-the-sums-are-right which =
+      subst (λ (s : Own). Right (framOf which (s .frams))) (sym now) (after-any-calls-the-sums-are-right address limit (lockIn locked) lent fits (asLending calls) which)
 
-  -- and a CRC command for a range inside FRAM, given to `wheel_step` byte by byte, is answered by the packed reply with the CRC of the bytes
+  -- and a CRC command for a range inside one of them, given to `wheel_step` byte by byte, is answered by the packed reply with the CRC of the bytes
   -- that are now stored there, worked out afresh.
-  pub the-CRC-sent-from-C-is-fresh : (sending : List FromC) (c : FromC) (message : List ℕ) (source control first last : ℕ) → Inside memory first last
+  pub the-CRC-sent-from-C-is-fresh : (sending : List FromC) (c : FromC) (message : List ℕ) (source control : ℕ) (which : Which) (first last : ℕ) → Inside which frams-now first last
       → OnTheLine record-now message sending c → Sends (unitIn record-now) message source control (bytes32 first ++ bytes32 last) (callsOf sending) (callOf c)
-      → c .lent .fram ≡ memory .fram → c .lent .sums ≡ memory .sums → codeOf control ≡ 0x06 → polls control ≡ true
+      → c .lent .frams ≡ frams-now → codeOf control ≡ 0x06 → polls control ≡ true
       → toBeSent c
       ≡ packedOf (replyMessage 1 (record-now .address) source control
-      ((bytes32 first ++ bytes32 last) ++ bytes16 (sumOf (stretch (first - firstOfFram) (last - first + 1) (memory .fram)))))
-  the-CRC-sent-from-C-is-fresh sending c message source control first last range on sends its-fram its-sums code polled =
-      ap (λ (r : Returned). take (r .stepped .sent) (r .world .reply)) (the-line-from-C record-now message sending c on .1)
+      ((bytes32 first ++ bytes32 last) ++ bytes16 (sumOf (stretch (first - firstOf which) (last - first + 1) (framOf which frams-now .fram)))))
+  the-CRC-sent-from-C-is-fresh sending c message source control which first last range on sends its-own code polled =
+      ap (λ (r : Returned). take (r .stepped .sent) (r .world .buffers .reply)) (the-line-from-C record-now message sending c on .1)
       ∙ subst
-      (λ (s : Own). Inside (s .memory) first last → Sends (s .unit) message source control (bytes32 first ++ bytes32 last) (callsOf sending) (callOf c)
-      → c .lent .fram ≡ s .memory .fram → c .lent .sums ≡ s .memory .sums
+      (λ (s : Own). Inside which (s .frams) first last → Sends (s .unit) message source control (bytes32 first ++ bytes32 last) (callsOf sending) (callOf c)
+      → c .lent .frams ≡ s .frams
       → sentBy (leftBy (s .unit) message (callsOf sending) (callOf c))
       ≡ packedOf (replyMessage 1 (s .unit .address) source control
-      ((bytes32 first ++ bytes32 last) ++ bytes16 (sumOf (stretch (first - firstOfFram) (last - first + 1) (s .memory .fram))))))
+      ((bytes32 first ++ bytes32 last) ++ bytes16 (sumOf (stretch (first - firstOf which) (last - first + 1) (framOf which (s .frams) .fram))))))
       (sym now)
-      (λ inside sent fram sums. the-CRC-sent-is-fresh address limit lent fits (asLending calls) (callsOf sending) (callOf c) message source control first last inside sent fram sums code polled)
-      range sends its-fram its-sums
+      (λ inside sent same. the-CRC-sent-is-fresh address limit (lockIn locked) lent fits (asLending calls) (callsOf sending) (callOf c) message source control which first last inside sent same code polled)
+      range sends its-own
+
+-- ---- 02, T-07
+
+-- Once a record says locked, no bytes given to `wheel_step` change bootloader FRAM or its sums, or unlock it: after any calls, each with the record
+-- that the one before gave back and with FRAMs and sums that nobody else altered, whatever else they lend, refused or not.
+pub once-locked-no-bytes-from-C-change-bootloader-FRAM : (u : WheelUnit) (before : Frams) (calls : List FromC) → Follow u before calls → lockIn (u .locked) ≡ true
+    → (lockIn (lastUnit u calls .locked) ≡ true) × (lastFrams before calls .bootloader ≡ before .bootloader)
+once-locked-no-bytes-from-C-change-bootloader-FRAM u before calls follow locked =
+    subst (λ (s : Own). (s .unit .locked ≡ true) × (s .frams .bootloader ≡ before .bootloader)) (sym (calls-from-C calls u before follow))
+    (once-locked-no-bytes-change-bootloader-FRAM (asLending calls) (own (unitIn u) before) locked)
 
 -- ---- 02, T-02 and T-11
 
@@ -294,8 +313,8 @@ module _ (address limit : ℕ) (lent : World) (back : WheelStepped) (after : Wor
 -- buffers, refused or not. After any of them it is as long as it was, and each of its read-only bytes has the value that it had.
 pub no-bytes-from-C-change-a-read-only-byte : (edac : List ℕ) (calls : List AnyFromC) → OnOneEdac edac calls → KeepsReadOnly edac (lastEdac edac calls)
 no-bytes-from-C-change-a-read-only-byte edac [] on = kept-at-first edac
-no-bytes-from-C-change-a-read-only-byte edac (setting-up address limit lent back after ∷ calls) on =
-    let same : after .edac ≡ edac = ap (λ (r : Returned). r .world .edac) (on .1) ∙ a-set-up-keeps-edac address limit lent ∙ on .0 in
+no-bytes-from-C-change-a-read-only-byte edac (setting-up address limit locked lent back after ∷ calls) on =
+    let same : after .edac ≡ edac = ap (λ (r : Returned). r .world .edac) (on .1) ∙ a-set-up-keeps-edac address limit (lockIn locked) lent ∙ on .0 in
     also-kept (subst (KeepsReadOnly edac) (sym same) (kept-at-first edac)) (no-bytes-from-C-change-a-read-only-byte (after .edac) calls (on .2))
 no-bytes-from-C-change-a-read-only-byte edac (stepping u c ∷ calls) on =
     let kept-so = a-step-keeps-read-only-bytes (unitIn u) (c .byte) (c .lent) in

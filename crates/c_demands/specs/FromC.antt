@@ -2,11 +2,12 @@
 -- out". Assumes nothing.
 use Prim.Native.Nat.{ℕ, _≤_}
 use mathlib.Core.Path.{_≡_}
+use mathlib.Core.Bool.{Bool, _||_}
 use mathlib.Core.List.{List, [], _∷_, _++_}
 use lib.ListN.{take}
 use Rattle.line.specs.Packing.{packOf}
 use Rattle.memory.specs.Bytes.{begun}
-use Rattle.blocks.specs.Fram.{Kept, kept}
+use Rattle.carrying.specs.Held.{Frams}
 use Rattle.file_commands.specs.WriteFile.{judgeListOf, storage, storeListOf}
 use Rattle.unit.specs.World.{World}
 use Rattle.unit.specs.Steps.{setUpOf, stepOf}
@@ -14,9 +15,10 @@ use Rattle.board.specs.declared.WheelUnit.{WheelUnit}
 use Rattle.board.specs.declared.WheelStepped.{WheelStepped}
 use Rattle.board.specs.declared.WheelPacked.{WheelPacked}
 use Rattle.board.specs.Face.{yesOut}
-use Rattle.board.specs.Records.{unitIn, unitOut, returned, returnedBy, packingBy}
+use Rattle.board.specs.Records.{lockIn, lockOut, unitIn, unitOut, returned, returnedBy, packingBy}
 use Rattle.demands.specs.Calls.{Call, bytesOf}
-use Rattle.demands.specs.Leaving.{countsAfter}
+use Rattle.demands.specs.Locking.{locks}
+use Rattle.demands.specs.Leaving.{diagnosticsAfter}
 
 -- A call of `wheel_step`, apart from its record: the byte, what was lent, what came back, and what was lent as the call left it.
 pub record FromC : Type 0 where
@@ -29,8 +31,8 @@ pub record FromC : Type 0 where
 abbrev pub Steps : WheelUnit → FromC → Type 0
 Steps u c = returned (c .back) (c .left) ≡ returnedBy (stepOf (unitIn u) (c .byte) (c .lent))
 
-abbrev pub SetsUp : ℕ → ℕ → World → WheelStepped → World → Type 0
-SetsUp address limit lent back left = returned back left ≡ returnedBy (setUpOf address limit lent)
+abbrev pub SetsUp : ℕ → ℕ → ℕ → World → WheelStepped → World → Type 0
+SetsUp address limit locked lent back left = returned back left ≡ returnedBy (setUpOf address limit (lockIn locked) lent)
 
 -- The same call as demands speaks of it.
 abbrev pub callOf : FromC → Call
@@ -46,13 +48,17 @@ callsOf (c ∷ calls) = callOf c ∷ callsOf calls
 pub record LeavesInC (u : WheelUnit) (c : FromC) : Type 0 where
   -- 20 to 26 and 29 change nothing at all: the record comes back as it was read.
   pub nothing-by-a-refused-call : 20 ≤ c .back .answer → (c .back .unit ≡ unitOut (unitIn u)) × (c .left ≡ c .lent)
-  -- All but 1 and 2 leave EDAC, FRAM, sums and mode unchanged.
+  -- All but 1 and 2 leave EDAC, both FRAMs with their sums, mode and lock unchanged.
   pub memory-unless-a-command-is-done : (c .back .answer ≡ 1 → ⊥) → (c .back .answer ≡ 2 → ⊥)
-      → (c .left .edac ≡ c .lent .edac) × (c .left .fram ≡ c .lent .fram) × (c .left .sums ≡ c .lent .sums) × (c .back .unit .mode ≡ unitOut (unitIn u) .mode)
-  pub counts : c .left .diagnostics ≡ countsAfter (c .back .answer) (c .lent .diagnostics)
+      → (c .left .edac ≡ c .lent .edac) × (c .left .frams ≡ c .lent .frams) × (c .back .unit .mode ≡ unitOut (unitIn u) .mode)
+      × (c .back .unit .locked ≡ unitOut (unitIn u) .locked)
+  -- 5 to 8 are counted; a byte that completes an order to lock (02, T-07) writes the low byte of 0x06, and locks. Nothing else moves either.
+  pub counts : c .left .diagnostics ≡ diagnosticsAfter (locks (unitIn u) (c .byte) (c .lent)) (c .back .answer) (c .lent .diagnostics)
+  pub lock : c .back .unit .locked ≡ lockOut (lockIn (u .locked) || locks (unitIn u) (c .byte) (c .lent))
   -- What is to be sent is the first part of the reply buffer; the rest of it is as it was.
-  pub reply : c .left .reply ≡ begun (c .lent .reply) (take (c .back .sent) (c .left .reply))
+  pub reply : c .left .buffers .reply ≡ begun (c .lent .buffers .reply) (take (c .back .sent) (c .left .buffers .reply))
   pub address : c .back .unit .address ≡ u .address
+  pub bootloader-length : c .back .unit .«bootloader_len» ≡ u .«bootloader_len»
   pub fram-length : c .back .unit .«fram_len» ≡ u .«fram_len»
   pub limit : c .back .unit .limit ≡ u .limit
 
@@ -60,8 +66,8 @@ pub record LeavesInC (u : WheelUnit) (c : FromC) : Type 0 where
 
 -- Each call has the record that the one before gave back, and the message buffer as the one before left it.
 abbrev pub OnTheLine : WheelUnit → List ℕ → List FromC → FromC → Type 0
-OnTheLine u message [] c = (c .lent .message ≡ message) × Steps u c
-OnTheLine u message (d ∷ calls) c = (d .lent .message ≡ message) × Steps u d × OnTheLine (d .back .unit) (d .left .message) calls c
+OnTheLine u message [] c = (c .lent .buffers .message ≡ message) × Steps u c
+OnTheLine u message (d ∷ calls) c = (d .lent .buffers .message ≡ message) × Steps u d × OnTheLine (d .back .unit) (d .left .buffers .message) calls c
 
 -- A message packed by `wheel_pack`, as its contract says: what came back, and the reply buffer before and afterwards.
 abbrev pub Packs : List ℕ → List ℕ → WheelPacked → List ℕ → Type 0
@@ -73,7 +79,7 @@ bytesFromC calls c = bytesOf (callsOf calls) ++ (c .byte ∷ [])
 
 -- What is to be sent after a call.
 abbrev pub toBeSent : FromC → List ℕ
-toBeSent c = take (c .back .sent) (c .left .reply)
+toBeSent c = take (c .back .sent) (c .left .buffers .reply)
 
 -- The numbers of their answers.
 abbrev pub numbersOf : List FromC → List ℕ
@@ -82,21 +88,20 @@ numbersOf (c ∷ calls) = c .back .answer ∷ numbersOf calls
 
 -- ---- demand 3: any calls
 
--- Each call has the record that the one before gave back, and FRAM and sums as the one before left them; all else may be anything, of
--- any length.
-abbrev pub Follow : WheelUnit → Kept → List FromC → Type 0
-Follow u memory [] = Prim.Unit {0}
-Follow u memory (c ∷ calls) =
-    (kept (c .lent .fram) (c .lent .sums) ≡ memory) × Steps u c × Follow (c .back .unit) (kept (c .left .fram) (c .left .sums)) calls
+-- Each call has the record that the one before gave back, and both FRAMs and their sums as the one before left them; all else may be anything,
+-- of any length.
+abbrev pub Follow : WheelUnit → Frams → List FromC → Type 0
+Follow u now [] = Prim.Unit {0}
+Follow u now (c ∷ calls) = (c .lent .frams ≡ now) × Steps u c × Follow (c .back .unit) (c .left .frams) calls
 
--- The record, and FRAM and sums, that the last of them leaves.
+-- The record, and the FRAMs and sums, that the last of them leaves.
 abbrev pub lastUnit : WheelUnit → List FromC → WheelUnit
 lastUnit u [] = u
 lastUnit u (c ∷ calls) = lastUnit (c .back .unit) calls
 
-abbrev pub lastMemory : Kept → List FromC → Kept
-lastMemory memory [] = memory
-lastMemory memory (c ∷ calls) = lastMemory (kept (c .left .fram) (c .left .sums)) calls
+abbrev pub lastFrams : Frams → List FromC → Frams
+lastFrams now [] = now
+lastFrams now (c ∷ calls) = lastFrams (c .left .frams) calls
 
 -- ---- 02, T-11: a list judged, and a list stored
 
@@ -110,23 +115,23 @@ Stores limit edac list answer left = storage answer left ≡ storeListOf limit e
 
 -- ---- 02, T-02 and T-11: any calls on one EDAC memory
 
--- A call of `wheel_set_up`, with its address and limit, what was lent, what came back and what was lent as the call left it; one of `wheel_step`,
+-- A call of `wheel_set_up`, with its address, limit and lock, what was lent, what came back and what was lent as the call left it; one of `wheel_step`,
 -- with its record; or one of `wheel_store_list`, with its limit, the EDAC memory and the list that were lent, its answer and the EDAC memory that it left.
 pub data AnyFromC : Type 0 where
-  setting-up : ℕ → ℕ → World → WheelStepped → World → AnyFromC
+  setting-up : ℕ → ℕ → ℕ → World → WheelStepped → World → AnyFromC
   stepping : WheelUnit → FromC → AnyFromC
   storing : ℕ → List ℕ → List ℕ → ℕ → List ℕ → AnyFromC
 
 -- Each call is lent EDAC memory as the one before left it; all else may be anything, of any length, and another record at each call.
 abbrev pub OnOneEdac : List ℕ → List AnyFromC → Type 0
 OnOneEdac edac [] = Prim.Unit {0}
-OnOneEdac edac (setting-up address limit lent back left ∷ calls) = (lent .edac ≡ edac) × SetsUp address limit lent back left × OnOneEdac (left .edac) calls
+OnOneEdac edac (setting-up address limit locked lent back left ∷ calls) = (lent .edac ≡ edac) × SetsUp address limit locked lent back left × OnOneEdac (left .edac) calls
 OnOneEdac edac (stepping u c ∷ calls) = (c .lent .edac ≡ edac) × Steps u c × OnOneEdac (c .left .edac) calls
 OnOneEdac edac (storing limit lent list answer left ∷ calls) = (lent ≡ edac) × Stores limit lent list answer left × OnOneEdac left calls
 
 -- EDAC memory as the last of them leaves it.
 abbrev pub lastEdac : List ℕ → List AnyFromC → List ℕ
 lastEdac edac [] = edac
-lastEdac edac (setting-up address limit lent back left ∷ calls) = lastEdac (left .edac) calls
+lastEdac edac (setting-up address limit locked lent back left ∷ calls) = lastEdac (left .edac) calls
 lastEdac edac (stepping u c ∷ calls) = lastEdac (c .left .edac) calls
 lastEdac edac (storing limit lent list answer left ∷ calls) = lastEdac left calls

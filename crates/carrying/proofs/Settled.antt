@@ -16,6 +16,8 @@ a-handler-allows-one-outcome {M} o reply before r s l m a b e f =
     let same = e ∙ sym f in
     (ap (λ (x : Left M). x .ended) same, ap (λ (x : Left M). x .reply) same, ap (λ (x : Left M). x .memory) same)
 
--- what a command came to, with the mode afterwards, is one value
-pub carried-as-one : (r s : Carried) → r .ended ≡ s .ended → r .mode ≡ s .mode → r ≡ s
-carried-as-one r s e f = ap₂ (λ ended mode. record { ended = ended; mode = mode }) e f
+-- what a command came to, with the mode and the lock afterwards, is one value
+pub carried-as-one : (r s : Carried) → r .ended ≡ s .ended → r .mode ≡ s .mode → r .locked ≡ s .locked → r ≡ s
+carried-as-one r s e f g =
+    ap₂ (λ ended mode. record { ended = ended; mode = mode; locked = r .locked }) e f
+    ∙ ap (λ locked. record { ended = s .ended; mode = s .mode; locked = locked }) g

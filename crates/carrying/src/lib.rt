@@ -30,8 +30,9 @@ pub enum Ended {
     Unfitted,
 }
 
-// What a command comes to, with the mode afterwards.
+// What a command comes to, with the mode afterwards, and whether bootloader FRAM is locked.
 pub struct Carried {
     pub ended: Ended,
     pub mode: Mode,
+    pub locked: bool,
 }

@@ -11,36 +11,42 @@ use Rattle.carrying.specs.declared.Mode.{Mode}
 use Rattle.carrying.specs.declared.Mode.the-variants.{Bootloader, Application}
 use Rattle.carrying.specs.Ending.{done, refused}
 use Rattle.field.specs.Fields.{word32At}
-use Rattle.command.specs.Init.{applicationStart, starts, initOf}
+use Rattle.carrying.specs.Held.{Standing, standing}
+use Rattle.command.specs.Init.{applicationStart, lockOrder, orders, lockedFrom, initOf}
 use Rattle.command.specs.Diagnostic.{allChannels, channelsShown, diagnosticOf}
 
 -- ---- INIT
 
-pub init-resets : (mode : Mode) (field : List ℕ) → length field ≡ 0 → initOf mode field ≡ done [] Bootloader
+pub init-resets : (now : Standing) (field : List ℕ) → length field ≡ 0 → initOf now field ≡ done [] (standing Bootloader (now .locked) (now .diagnostics))
 unfolding initOf
-init-resets mode field none = simp (eq-eqb (length field) 0 none)
+init-resets now field none = simp (eq-eqb (length field) 0 none)
 
-pub init-starts : (mode : Mode) (field : List ℕ) → (length field ≡ 0 → ⊥) → starts mode field ≡ true → initOf mode field ≡ done field Application
-unfolding initOf
-init-starts mode field some starting = simp (ne-eqb (length field) 0 some, starting)
+module _ (now : Standing) (field : List ℕ) (some : length field ≡ 0 → ⊥) where
+  pub init-starts : orders applicationStart (now .mode) field ≡ true → initOf now field ≡ done field (standing Application (now .locked) (now .diagnostics))
+  unfolding initOf
+  init-starts starting = simp (ne-eqb (length field) 0 some, starting)
 
-pub init-refuses : (mode : Mode) (field : List ℕ) → (length field ≡ 0 → ⊥) → starts mode field ≡ false → initOf mode field ≡ refused
-unfolding initOf
-init-refuses mode field some other = simp (ne-eqb (length field) 0 some, other)
+  pub init-locks : orders applicationStart (now .mode) field ≡ false → orders lockOrder (now .mode) field ≡ true → initOf now field ≡ done field (lockedFrom now)
+  unfolding initOf
+  init-locks other locking = simp (ne-eqb (length field) 0 some, other, locking)
+
+  pub init-refuses : orders applicationStart (now .mode) field ≡ false → orders lockOrder (now .mode) field ≡ false → initOf now field ≡ refused
+  unfolding initOf
+  init-refuses other another = simp (ne-eqb (length field) 0 some, other, another)
 
 both-first : (a b : Bool) → (a && b) ≡ true → a ≡ true
 both-first true b h = refl
 both-first false b h = h
 
-pub four-to-start : (mode : Mode) (field : List ℕ) → starts mode field ≡ true → length field ≡ 4
-four-to-start Bootloader field h = eqb-true (length field) 4 (both-first (eqb (length field) 4) (eqb (word32At field 0) applicationStart) h)
-four-to-start Application field h = let z : false ≡ true = h in absurd (false≢true z)
+pub four-to-order : (value : ℕ) (mode : Mode) (field : List ℕ) → orders value mode field ≡ true → length field ≡ 4
+four-to-order value Bootloader field h = eqb-true (length field) 4 (both-first (eqb (length field) 4) (eqb (word32At field 0) value) h)
+four-to-order value Application field h = let z : false ≡ true = h in absurd (false≢true z)
 
-pub starts-with-four : (field : List ℕ) → length field ≡ 4 → eqb (word32At field 0) applicationStart ≡ starts Bootloader field
-starts-with-four field four = simp (eq-eqb (length field) 4 four)
+pub orders-with-four : (value : ℕ) (field : List ℕ) → length field ≡ 4 → eqb (word32At field 0) value ≡ orders value Bootloader field
+orders-with-four value field four = simp (eq-eqb (length field) 4 four)
 
-pub starts-not-with : (field : List ℕ) → (length field ≡ 4 → ⊥) → false ≡ starts Bootloader field
-starts-not-with field other = simp (ne-eqb (length field) 4 other)
+pub orders-not-with : (value : ℕ) (field : List ℕ) → (length field ≡ 4 → ⊥) → false ≡ orders value Bootloader field
+orders-not-with value field other = simp (ne-eqb (length field) 4 other)
 
 -- ---- DIAGNOSTIC
 

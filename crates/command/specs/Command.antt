@@ -1,18 +1,16 @@
 -- The command that a code names: 01, "Commands"; ICD 11.4, Table 14. Assumes nothing.
 use Prim.Native.Nat.{ℕ}
-use mathlib.Core.Bool.{Bool, true, false, cond}
+use mathlib.Core.Bool.{Bool, true, false, cond, _&&_}
 use mathlib.Core.List.{List, [], _∷_}
 use lib.Dec.{eqb}
 use Rattle.carrying.specs.declared.Mode.{Mode}
 use Rattle.carrying.specs.declared.Mode.the-variants.{Bootloader, Application}
 use Rattle.carrying.specs.Ending.{Ending, refused}
-use Rattle.carrying.specs.Held.{Held, reading, onMode, onEdac, onFram}
+use Rattle.carrying.specs.Held.{Held, reading, onStanding, onEdac, onFrams}
 use Rattle.command.specs.Ping.{pingOf}
-use Rattle.command.specs.Init.{initOf}
-use Rattle.fram_commands.specs.Peek.{peekOf}
-use Rattle.fram_commands.specs.Poke.{pokeOf}
+use Rattle.command.specs.Init.{lockOrder, orders, initOf}
+use Rattle.fram_commands.specs.ByAddress.{peekByAddress, pokeByAddress, crcByAddress}
 use Rattle.command.specs.Diagnostic.{diagnosticOf}
-use Rattle.fram_commands.specs.Crc.{crcOf}
 use Rattle.file_commands.specs.ReadFile.{readFileOf}
 use Rattle.file_commands.specs.WriteFile.{writeFileOf}
 use Rattle.edac_commands.specs.ReadEdac.{readEdacOf}
@@ -30,15 +28,15 @@ abbrev pub row : ℕ → Bool → Bool → Ending Held → Row
 row code bootloader application comes =
     record { code = code; bootloader = bootloader; application = application; comes = comes }
 
--- `room` is the longest data field of a reply, the unit's limit, `first` the address of the first byte of FRAM (0x20040000).
-abbrev pub table : ℕ → ℕ → List ℕ → Held → List ℕ → List Row
-table room first diagnostics now field =
+-- `room` is the longest data field of a reply, the unit's limit.
+abbrev pub table : ℕ → Held → List ℕ → List Row
+table room now field =
     row 0x00 true true (reading now pingOf)
-    ∷ row 0x01 true true (onMode now (initOf (now .mode) field))
-    ∷ row 0x02 true true (reading now (peekOf room first (now .memory .fram) field))
-    ∷ row 0x03 true true (onFram now (pokeOf room first (now .memory) field))
-    ∷ row 0x04 true true (reading now (diagnosticOf room diagnostics field))
-    ∷ row 0x06 true true (reading now (crcOf first (now .memory) field))
+    ∷ row 0x01 true true (onStanding now (initOf (now .standing) field))
+    ∷ row 0x02 true true (reading now (peekByAddress room (now .frams .bootloader .fram) (now .frams .user .fram) field))
+    ∷ row 0x03 true true (onFrams now (pokeByAddress room (now .standing .locked) (now .frams) field))
+    ∷ row 0x04 true true (reading now (diagnosticOf room (now .standing .diagnostics) field))
+    ∷ row 0x06 true true (reading now (crcByAddress (now .frams) field))
     ∷ row 0x07 false true (reading now (readFileOf room (now .edac) field))
     ∷ row 0x08 false true (onEdac now (writeFileOf room (now .edac) field))
     ∷ row 0x09 false true (reading now (readEdacOf room (now .edac) field))
@@ -57,5 +55,9 @@ foundIn [] mode code = refused
 foundIn (r ∷ rows) mode code = cond (eqb code (r .code)) (inMode mode r) (foundIn rows mode code)
 
 -- What the command of a code comes to, in the mode that is held.
-unfoldable pub commandOf : ℕ → ℕ → ℕ → List ℕ → Held → List ℕ → Ending Held
-commandOf room first code diagnostics now field = foundIn (table room first diagnostics now field) (now .mode) code
+unfoldable pub commandOf : ℕ → ℕ → Held → List ℕ → Ending Held
+commandOf room code now field = foundIn (table room now field) (now .standing .mode) code
+
+-- Whether a command is the order to lock bootloader FRAM (02, T-07): INIT 0xDEADBEEF, in bootloader mode.
+abbrev pub isLocking : ℕ → Mode → List ℕ → Bool
+isLocking code mode field = eqb code 0x01 && orders lockOrder mode field

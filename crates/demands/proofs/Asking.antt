@@ -12,9 +12,8 @@ use Rattle.memory.specs.Edac.{edacSize}
 use Rattle.memory.proofs.Tests.{either-side}
 use Rattle.carrying.specs.declared.Mode.the-variants.{Application}
 use Rattle.carrying.specs.Ending.{done, refused}
-use Rattle.carrying.specs.Held.{held, onEdac}
+use Rattle.carrying.specs.Held.{standing, held, onEdac}
 use Rattle.carrying.proofs.Room.{either-way}
-use Rattle.blocks.specs.Fram.{kept}
 use Rattle.field.specs.Reading.{isWhole}
 use Rattle.file_commands.specs.ReadFile.{filesShown}
 use Rattle.file_commands.specs.WriteFile.{listed, filesOf, filesStored, judgeListOf, Storage, storeListOf}
@@ -39,7 +38,7 @@ module _ (u : Unit) (c : Call) (control : ℕ) (list : List ℕ) (code : codeOf 
   -- A list that is judged fit is done, and stored as storing stores it;
   pub a-list-judged-fit-is-done : judgeListOf (u .limit) list ≡ true
       → let after = filesStored (c .lent .edac) (listed list) in
-      cameTo u c control list ≡ done (filesShown after (filesOf (listed list))) (held (u .mode) after (kept (c .lent .fram) (c .lent .sums)))
+      cameTo u c control list ≡ done (filesShown after (filesOf (listed list))) (held (standing (u .mode) (u .locked) (c .lent .diagnostics)) after (c .lent .frams))
   a-list-judged-fit-is-done fit = a-WRITE-FILE-comes-to u c control list code mode ∙ ap (onEdac (heldOf u (c .lent))) (a-fit-list-is-written (u .limit) (c .lent .edac) list fit)
 
   -- any other is refused.

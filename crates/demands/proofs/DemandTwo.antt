@@ -38,13 +38,13 @@ use Rattle.answer.specs.Answers.{sentOf}
 use Rattle.judging.specs.declared.Unit.{Unit}
 use Rattle.judging.specs.declared.Verdict.the-variants.{Quiet, Command}
 use Rattle.judging.specs.declared.fitting.Fit.the-variants.{Fits, Unfit}
-use Rattle.judging.specs.Fitting.{framAsSetUp, limitFit, countFit, largestCount, lengthsFit, stepFit}
+use Rattle.judging.specs.Fitting.{framsAsSetUp, limitFit, countFit, largestCount, lengthsFit, stepFit}
 use Rattle.judging.specs.Judging.{largestMessage, dropped, soundOf, runOf, verdictOf, withReceiver, receivedOf, judgeOf}
 use Rattle.judging.proofs.Ways.{an-oversize}
 use Rattle.judging.proofs.Serving.{a-served-step-fits, a-served-step-is-limited}
 use Rattle.replying.specs.Replies.{codeOf, polls, replyControl, sealed, replyMessage, Said, saying, saidOf}
 use Rattle.unit.specs.World.{World, lengthsOf, Outcome, outcome, withMessage, heldOf}
-use Rattle.unit.specs.Steps.{firstOfFram, answered, orderedOf, commandedOf, servedOf, stepOf}
+use Rattle.unit.specs.Steps.{answered, orderedOf, commandedOf, servedOf, stepOf}
 use Rattle.demands.specs.Calls.{Call, Fed, lentTo, answering, fedOf, bytesOf, delivering, Suits, AllSuit, Serves, Idle, comesTo, addressedOf, answerMessage, Bytes}
 use Rattle.demands.proofs.Cases.{of-anything-heard, of-any-call, a-refused-step-has-its-number}
 use Rattle.demands.proofs.DemandOne.{high-sends}
@@ -64,14 +64,14 @@ at-least-a-PING limit limited = omega (arith, within-both-ends limit limited .0)
 is-served : (u : Unit) → Serves u → countFit (u .receiver .count) (limitFit (u .limit)) ≡ Fits
 is-served u serves = simp (le-leb (u .receiver .count) largestCount (serves .0), serves .1)
 
-module _ (u : Unit) (message : List ℕ) (c : Call) (serves : Serves u) (suits : Suits (u .address) (u .«fram_len») (length message) c) where
+module _ (u : Unit) (message : List ℕ) (c : Call) (serves : Serves u) (suits : Suits u (length message) c) where
   abbrev pub got : Reception
   got = receiveOf (largestMessage (u .limit)) (u .receiver) (c .byte) message
 
   pub a-call-that-suits-fits : stepFit u (lengthsOf (lentTo message c)) ≡ Fits
   unfolding stepFit
   a-call-that-suits-fits =
-      ap (λ next. lengthsFit (u .address) (framAsSetUp (length (c .lent .fram)) (u .«fram_len»)) (lengthsOf (lentTo message c)) next) (is-served u serves)
+      ap (λ next. lengthsFit (u .address) (framsAsSetUp u (lengthsOf (lentTo message c))) (lengthsOf (lentTo message c)) next) (is-served u serves)
       ∙ suits
 
   pub served : stepOf u (c .byte) (lentTo message c) ≡ comesTo (withReceiver u (got .receiver)) (got .heard) (lentTo (got .message) c)
@@ -87,6 +87,11 @@ module _ (u : Unit) (message : List ℕ) (c : Call) (serves : Serves u) (suits :
   still-long : length (got .message) ≡ length message
   still-long = the-buffer-keeps-its-length (largestMessage (u .limit)) (c .byte ∷ []) (u .receiver) message
 
+-- what suits a unit suits it whatever its receiver
+suiting-still : (u : Unit) (receiver : Receiver) (size : ℕ) (calls : List Call) → AllSuit u size calls → AllSuit (withReceiver u receiver) size calls
+suiting-still u receiver size [] all = tt
+suiting-still u receiver size (d ∷ calls) all = (all .0, suiting-still u receiver size calls (all .1))
+
 first-or : Heard → List Heard → Heard
 first-or h [] = h
 first-or h (x ∷ _) = x
@@ -97,7 +102,7 @@ but-first (_ ∷ l) = l
 
 -- calls of which all but the last are only taken leave what the last one comes to
 all-but-the-last : (calls : List Call) (c : Call) (h : Heard) (u : Unit) (message : List ℕ) → Serves u
-    → AllSuit (u .address) (u .«fram_len») (length message) calls → Suits (u .address) (u .«fram_len») (length message) c
+    → AllSuit u (length message) calls → Suits u (length message) c
     → feedOf (largestMessage (u .limit)) (u .receiver) (bytesOf calls ++ (c .byte ∷ [])) message .heard ≡ replicate (length calls) heard.Taken ++ (h ∷ [])
     → fedOf u message calls c
     ≡ delivering (length calls)
@@ -112,14 +117,14 @@ all-but-the-last (d ∷ calls) c h u message serves all last e =
     let next = got u message d serves (all .0) in
     let same : next .heard ≡ heard.Taken = ap (first-or h) e in
     let long : length (next .message) ≡ length message = still-long u message d serves (all .0) in
-    ap (λ o. answering (o .answer) (fedOf (o .unit) (o .world .message) calls c))
+    ap (λ o. answering (o .answer) (fedOf (o .unit) (o .world .buffers .message) calls c))
     (served u message d serves (all .0) ∙ ap (λ x. comesTo (withReceiver u (next .receiver)) x (lentTo (next .message) d)) same)
     ∙ ap (answering Taken)
     (all-but-the-last calls c h (withReceiver u (next .receiver)) (next .message) (still-serves u message d serves (all .0))
-    (subst (λ n. AllSuit (u .address) (u .«fram_len») n calls) (sym long) (all .1)) (subst (λ n. Suits (u .address) (u .«fram_len») n c) (sym long) last) (ap but-first e))
+    (suiting-still u (next .receiver) (length (next .message)) calls (subst (λ n. AllSuit u n calls) (sym long) (all .1))) (subst (λ n. Suits u n c) (sym long) last) (ap but-first e))
 
 -- what is lent suits, and so the message buffer is long enough
-long-enough : (u : Unit) (message : List ℕ) (c : Call) → Serves u → Suits (u .address) (u .«fram_len») (length message) c → messageSize ≤ length message
+long-enough : (u : Unit) (message : List ℕ) (c : Call) → Serves u → Suits u (length message) c → messageSize ≤ length message
 long-enough u message c serves suits = a-served-step-fits u (lengthsOf (lentTo message c)) (a-call-that-suits-fits u message c serves suits) .message-fits
 
 as-many : (calls : List Call) → length (bytesOf calls) ≡ length calls
@@ -128,14 +133,14 @@ as-many (d ∷ calls) = ap suc (as-many calls)
 
 -- the calls of one run and its FEND, after a FEND
 module _ (u : Unit) (message : List ℕ) (calls : List Call) (c : Call) (run : List ℕ) (limited : isLimit (u .limit) ≡ true) (is : bytesOf calls ≡ run) (ends : c .byte ≡ fend)
-    (all : AllSuit (u .address) (u .«fram_len») (length message) calls) (last : Suits (u .address) (u .«fram_len») (length message) c) where
+    (all : AllSuit u (length message) calls) (last : Suits u (length message) c) where
   closed : (f : Feed) → feedOf (largestMessage (u .limit)) opened (run ++ (fend ∷ [])) message ≡ f → (h : Heard) → f .heard ≡ replicate (length run) heard.Taken ++ (h ∷ [])
       → fedOf (withReceiver u opened) message calls c ≡ delivering (length calls) (comesTo (withReceiver u (f .receiver)) h (lentTo (f .message) c))
   closed f e h hears =
       let same : bytesOf calls ++ (c .byte ∷ []) ≡ run ++ (fend ∷ []) = ap₂ (λ (l : List ℕ) (n : ℕ). l ++ (n ∷ [])) is ends in
       let whole : feedOf (largestMessage (u .limit)) opened (bytesOf calls ++ (c .byte ∷ [])) message ≡ f = ap (λ l. feedOf (largestMessage (u .limit)) opened l message) same ∙ e in
       let many : length run ≡ length calls = sym (ap length is) ∙ as-many calls in
-      all-but-the-last calls c h (withReceiver u opened) message (omega arith, limited) all last
+      all-but-the-last calls c h (withReceiver u opened) message (omega arith, limited) (suiting-still u opened (length message) calls all) last
       (ap (λ (g : Feed). g .heard) whole ∙ hears ∙ ap (λ (n : ℕ). replicate n heard.Taken ++ (h ∷ [])) many)
       ∙ ap (λ (g : Feed). delivering (length calls) (comesTo (withReceiver u (g .receiver)) h (lentTo (g .message) c))) whole
 
@@ -162,15 +167,15 @@ module _ (u : Unit) (message : List ℕ) (calls : List Call) (c : Call) (run : L
 
 -- a call that is not refused leaves the receiver as the line leaves it
 pub the-receiver-is-the-line's : (u : Unit) (byte : ℕ) (w : World) → stepFit u (lengthsOf w) ≡ Fits
-    → stepOf u byte w .unit .receiver ≡ receiveOf (largestMessage (u .limit)) (u .receiver) byte (w .message) .receiver
+    → stepOf u byte w .unit .receiver ≡ receiveOf (largestMessage (u .limit)) (u .receiver) byte (w .buffers .message) .receiver
 unfolding answered
 the-receiver-is-the-line's u byte w fits =
-    of-any-call (λ (o : Outcome). o .unit .receiver ≡ receiveOf (largestMessage (u .limit)) (u .receiver) byte (w .message) .receiver) u byte w
+    of-any-call (λ _ (o : Outcome). o .unit .receiver ≡ receiveOf (largestMessage (u .limit)) (u .receiver) byte (w .buffers .message) .receiver) u byte w
     (λ answer e. let z : Fits ≡ Unfit answer = sym fits ∙ e in let o : _≡_ {A = ℕ} 0 1 = cc in absurd (omega arith))
     (λ _. record { taken = refl; elsewhere = refl; dropped = λ answer which number four silent. refl; commanded = λ destination source control field short. refl })
 
 -- A FEND that is served opens a run, whatever it closed.
-pub a-served-FEND-opens-a-run : (u : Unit) (message : List ℕ) (c : Call) → Serves u → Suits (u .address) (u .«fram_len») (length message) c → c .byte ≡ fend
+pub a-served-FEND-opens-a-run : (u : Unit) (message : List ℕ) (c : Call) → Serves u → Suits u (length message) c → c .byte ≡ fend
     → stepOf u (c .byte) (lentTo message c) .unit .receiver ≡ opened
 unfolding receiveOf
 a-served-FEND-opens-a-run u message c serves suits ends =
@@ -210,7 +215,7 @@ module _ (u : Unit) (w : World) (destination source control : ℕ) (field : List
   head = destination ∷ source ∷ control ∷ field
 
   abbrev lying : World
-  lying = withMessage w (sealed head ++ drop (length (sealed head)) (w .message))
+  lying = withMessage w (sealed head ++ drop (length (sealed head)) (w .buffers .message))
 
   sealed-length : length (sealed head) ≡ length field + 5
   unfolding sealed
@@ -245,26 +250,26 @@ module _ (u : Unit) (w : World) (destination source control : ℕ) (field : List
   either-one : (b : Bool) → servedOf u (cond b (Command (length (sealed head))) (Quiet Elsewhere)) lying
       ≡ cond b (orderedOf u destination source control field lying) (outcome u Elsewhere lying)
   unfolding servedOf commandedOf sealed
-  either-one true = ap (λ (f : List ℕ). orderedOf u destination source control f lying) (field-size (drop (length (sealed head)) (w .message)))
+  either-one true = ap (λ (f : List ℕ). orderedOf u destination source control f lying) (field-size (drop (length (sealed head)) (w .buffers .message)))
   either-one false = refl
 
-  judged : servedOf u (runOf (largestMessage (u .limit)) (u .address) (length (sealed head)) (lying .message)) lying ≡ addressedOf u destination source control field lying
+  judged : servedOf u (runOf (largestMessage (u .limit)) (u .address) (length (sealed head)) (lying .buffers .message)) lying ≡ addressedOf u destination source control field lying
   unfolding runOf sealed
   judged =
-      let tail = drop (length (sealed head)) (w .message) in
+      let tail = drop (length (sealed head)) (w .buffers .message) in
       simp (no-runt, not-oversize, sound tail) (either-one (eqb destination (u .address)))
 
 -- ---- demand 2
 
-module _ (u : Unit) (message : List ℕ) (calls : List Call) (c : Call) (serves : Serves u) (all : AllSuit (u .address) (u .«fram_len») (length message) calls)
-    (last : Suits (u .address) (u .«fram_len») (length message) c) (ends : c .byte ≡ fend) where
+module _ (u : Unit) (message : List ℕ) (calls : List Call) (c : Call) (serves : Serves u) (all : AllSuit u (length message) calls)
+    (last : Suits u (length message) c) (ends : c .byte ≡ fend) where
   -- a FEND where nothing is open is only taken
   quiet : (w : World) → Idle (u .receiver) → comesTo (withReceiver u opened) (closedOf (u .receiver .place) (u .receiver .count)) w ≡ outcome (withReceiver u opened) Taken w
   unfolding servedOf verdictOf
   quiet w (inl e) = ap (λ h. comesTo (withReceiver u opened) h w) e
   quiet w (inr e) = ap (λ h. comesTo (withReceiver u opened) h w) e
 
-  opening : Idle (u .receiver) → (d : Call) → Suits (u .address) (u .«fram_len») (length message) d → d .byte ≡ fend
+  opening : Idle (u .receiver) → (d : Call) → Suits u (length message) d → d .byte ≡ fend
       → stepOf u (d .byte) (lentTo message d) ≡ outcome (withReceiver u opened) Taken (lentTo message d)
   unfolding receiveOf
   opening idle d suits e =
@@ -274,15 +279,15 @@ module _ (u : Unit) (message : List ℕ) (calls : List Call) (c : Call) (serves 
 
   -- a body that comes to something after any FEND comes to the same with its FEND before it, where nothing is open
   with-its-FEND : Idle (u .receiver) → (body : List ℕ) → bytesOf calls ≡ fend ∷ body → (x : Outcome)
-      → ((part : List Call) → AllSuit (u .address) (u .«fram_len») (length message) part → bytesOf part ≡ body
+      → ((part : List Call) → AllSuit u (length message) part → bytesOf part ≡ body
       → fedOf (withReceiver u opened) message part c ≡ delivering (length part) x)
       → fedOf u message calls c ≡ delivering (length calls) x
   with-its-FEND idle body is x after = by calls all is
     where
-      by : (part : List Call) → AllSuit (u .address) (u .«fram_len») (length message) part → bytesOf part ≡ fend ∷ body → fedOf u message part c ≡ delivering (length part) x
+      by : (part : List Call) → AllSuit u (length message) part → bytesOf part ≡ fend ∷ body → fedOf u message part c ≡ delivering (length part) x
       by [] suit e = let z : suc (length body) ≡ 0 = sym (ap length e) in absurd (omega arith)
       by (d ∷ part) suit e =
-          ap (λ o. answering (o .answer) (fedOf (o .unit) (o .world .message) part c)) (opening idle d (suit .0) (ap (λ l. getD l 0 0) e))
+          ap (λ o. answering (o .answer) (fedOf (o .unit) (o .world .buffers .message) part c)) (opening idle d (suit .0) (ap (λ l. getD l 0 0) e))
           ∙ ap (answering Taken) (after part (suit .1) (ap (drop 1) e))
 
   -- A message of more than limit + 5 bytes, whatever it says, is dropped for its length. Its first limit + 5 bytes stand in the message buffer.
@@ -332,11 +337,11 @@ module _ (u : Unit) (message : List ℕ) (calls : List Call) (c : Call) (serves 
         with-its-FEND idle (bodyOf m) is judgedThere (λ part suit body. body-judged u message part c (bodyOf m) (serves .1) body ends suit last m refl some within)
 
     -- And it stands at the start of the message buffer byte for byte, the rest of which is as it was.
-    pub a-packed-message-stands-in-the-buffer : Idle (u .receiver) → bytesOf calls ≡ fend ∷ bodyOf m → fedOf u message calls c .last .world .message ≡ m ++ drop (length m) message
+    pub a-packed-message-stands-in-the-buffer : Idle (u .receiver) → bytesOf calls ≡ fend ∷ bodyOf m → fedOf u message calls c .last .world .buffers .message ≡ m ++ drop (length m) message
     unfolding answered
     a-packed-message-stands-in-the-buffer idle is =
-        ap (λ (f : Fed). f .last .world .message) (a-packed-message-is-judged idle is)
-        ∙ of-anything-heard (λ (o : Outcome). o .world .message ≡ m ++ drop (length m) message) (withReceiver u opened) (lentTo (m ++ drop (length m) message) c)
+        ap (λ (f : Fed). f .last .world .buffers .message) (a-packed-message-is-judged idle is)
+        ∙ of-anything-heard (λ _ (o : Outcome). o .world .buffers .message ≡ m ++ drop (length m) message) (withReceiver u opened) (lentTo (m ++ drop (length m) message) c)
         (record { taken = refl; elsewhere = refl; dropped = λ answer which number four silent. refl; commanded = λ destination source control field short. refl })
         (heard.Message (length m))
 
@@ -371,13 +376,13 @@ module _ (u : Unit) (message : List ℕ) (calls : List Call) (c : Call) (serves 
 -- Where poll is set and the command did not fault, what is sent is the packed message of the answer.
 module _ (u : Unit) (destination source control : ℕ) (field : List ℕ) (w : World) (polled : polls control ≡ true) where
   pub what-is-sent-is-the-packed-answer : (o : Ending Held) → (o ≡ unfitted → ⊥)
-      → take (sentOf (answered u destination source control field o w .answer)) (answered u destination source control field o w .world .reply)
+      → take (sentOf (answered u destination source control field o w .answer)) (answered u destination source control field o w .world .buffers .reply)
       ≡ packedOf (answerMessage destination source control field o)
   unfolding answered saidOf saying begun
   what-is-sent-is-the-packed-answer (done reply changed) answers =
-      simp polled (take-append-seam (packedOf (replyMessage 1 destination source control reply)) (drop (length (packedOf (replyMessage 1 destination source control reply))) (w .reply)))
+      simp polled (take-append-seam (packedOf (replyMessage 1 destination source control reply)) (drop (length (packedOf (replyMessage 1 destination source control reply))) (w .buffers .reply)))
   what-is-sent-is-the-packed-answer refused answers =
-      simp polled (take-append-seam (packedOf (replyMessage 0 destination source control field)) (drop (length (packedOf (replyMessage 0 destination source control field))) (w .reply)))
+      simp polled (take-append-seam (packedOf (replyMessage 0 destination source control field)) (drop (length (packedOf (replyMessage 0 destination source control field))) (w .buffers .reply)))
   what-is-sent-is-the-packed-answer unfitted answers = absurd (answers refl)
 
 -- an answer's message is never longer than the limit allows
@@ -401,7 +406,7 @@ legal limit destination source control field unfitted answers short fits = absur
 module _ (u : Unit) (limited : isLimit (u .limit) ≡ true) (destination source control : ℕ) (field : List ℕ) (w : World) (polled : polls control ≡ true)
     (short : length field ≤ u .limit) where
   abbrev came : Ending Held
-  came = commandOf (u .limit) firstOfFram (codeOf control) (w .diagnostics) (heldOf u w) field
+  came = commandOf (u .limit) (codeOf control) (heldOf u w) field
 
   abbrev left : Outcome
   left = answered u destination source control field came w
@@ -410,11 +415,11 @@ module _ (u : Unit) (limited : isLimit (u .limit) ≡ true) (destination source 
       → (5 ≤ length (answerMessage destination source control field came)) × (length (answerMessage destination source control field came) ≤ largestMessage (u .limit))
   no-answer-is-longer-than-the-limit-allows answers =
       legal (u .limit) destination source control field came answers short
-      (every-reply-has-room (u .limit) (at-least-a-PING (u .limit) limited) firstOfFram (codeOf control) (w .diagnostics) (heldOf u w) field)
+      (every-reply-has-room (u .limit) (at-least-a-PING (u .limit) limited) (codeOf control) (heldOf u w) field)
 
   pub what-is-sent-is-received-back : (came ≡ unfitted → ⊥) → (largest : ℕ) (receiver : Receiver) (theirs : List ℕ) → largestMessage (u .limit) ≤ largest
       → largestMessage (u .limit) ≤ length theirs
-      → feedOf largest receiver (take (sentOf (left .answer)) (left .world .reply)) theirs
+      → feedOf largest receiver (take (sentOf (left .answer)) (left .world .buffers .reply)) theirs
       ≡ deliveredOf receiver (answerMessage destination source control field came) theirs
   what-is-sent-is-received-back answers largest receiver theirs takes roomy =
       let fits = no-answer-is-longer-than-the-limit-allows answers in
@@ -425,7 +430,7 @@ module _ (u : Unit) (limited : isLimit (u .limit) ≡ true) (destination source 
 
 -- Where poll is clear nothing is sent, and the reply buffer is as it was.
 pub nothing-is-sent-where-poll-is-clear : (u : Unit) (destination source control : ℕ) (field : List ℕ) (w : World) → polls control ≡ false → (o : Ending Held)
-    → (sentOf (answered u destination source control field o w .answer) ≡ 0) × (answered u destination source control field o w .world .reply ≡ w .reply)
+    → (sentOf (answered u destination source control field o w .answer) ≡ 0) × (answered u destination source control field o w .world .buffers .reply ≡ w .buffers .reply)
 unfolding answered saidOf saying
 nothing-is-sent-where-poll-is-clear u destination source control field w clear (done reply changed) = (simp clear, simp clear)
 nothing-is-sent-where-poll-is-clear u destination source control field w clear refused = (simp clear, simp clear)
@@ -452,15 +457,15 @@ answered-fits u destination source control field refused w short fits =
 answered-fits u destination source control field unfitted w short fits = omega arith
 
 module _ (u : Unit) (byte : ℕ) (w : World) where
-  sent-fits : (sentOf (stepOf u byte w .answer) ≤ 2 * largestMessage (u .limit) + 2) × (sentOf (stepOf u byte w .answer) ≤ length (w .reply))
+  sent-fits : (sentOf (stepOf u byte w .answer) ≤ 2 * largestMessage (u .limit) + 2) × (sentOf (stepOf u byte w .answer) ≤ length (w .buffers .reply))
   sent-fits =
-      of-any-call (λ (o : Outcome). (sentOf (o .answer) ≤ 2 * largestMessage (u .limit) + 2) × (sentOf (o .answer) ≤ length (w .reply))) u byte w
+      of-any-call (λ _ (o : Outcome). (sentOf (o .answer) ≤ 2 * largestMessage (u .limit) + 2) × (sentOf (o .answer) ≤ length (w .buffers .reply))) u byte w
       (λ answer e. let z = high-sends answer (a-refused-step-has-its-number u (lengthsOf w) answer e) in (omega arith, omega arith))
       (λ e.
       let limited = a-served-step-is-limited u (lengthsOf w) e in
       let most = no-longer-than-any (u .limit) limited in
       let room = a-served-step-fits u (lengthsOf w) e .reply-fits in
-      let got = receiveOf (largestMessage (u .limit)) (u .receiver) byte (w .message) in
+      let got = receiveOf (largestMessage (u .limit)) (u .receiver) byte (w .buffers .message) in
       let next = withReceiver u (got .receiver) in
       let lent = withMessage w (got .message) in
       record {
@@ -468,13 +473,13 @@ module _ (u : Unit) (byte : ℕ) (w : World) where
         elsewhere = (omega arith, omega arith);
         dropped = λ answer which number four silent. (omega arith, omega arith);
         commanded = λ destination source control field short.
-            let few = answered-fits next destination source control field (commandOf (u .limit) firstOfFram (codeOf control) (w .diagnostics) (heldOf next lent) field) lent short
-            (every-reply-has-room (u .limit) (at-least-a-PING (u .limit) limited) firstOfFram (codeOf control) (w .diagnostics) (heldOf next lent) field) in
+            let few = answered-fits next destination source control field (commandOf (u .limit) (codeOf control) (heldOf next lent) field) lent short
+            (every-reply-has-room (u .limit) (at-least-a-PING (u .limit) limited) (codeOf control) (heldOf next lent) field) in
             (few, omega arith);
       })
 
   pub no-more-is-sent-than-the-limit-allows : sentOf (stepOf u byte w .answer) ≤ 2 * largestMessage (u .limit) + 2
   no-more-is-sent-than-the-limit-allows = sent-fits .0
 
-  pub what-is-sent-fits-the-reply-buffer : sentOf (stepOf u byte w .answer) ≤ length (w .reply)
+  pub what-is-sent-fits-the-reply-buffer : sentOf (stepOf u byte w .answer) ≤ length (w .buffers .reply)
   what-is-sent-fits-the-reply-buffer = sent-fits .1

@@ -1,5 +1,6 @@
 -- 02, T-02: no bytes on the line change a read-only byte of EDAC memory, nor does storing a list (T-11). Assumes nothing.
 use mathlib.Core.Path.{_≡_, refl, sym, subst}
+use mathlib.Core.Bool.{Bool}
 use mathlib.Core.List.{List, [], _∷_}
 use Prim.Native.Nat.{ℕ, _-_}
 use native.Mathlib.Omega.{arith}
@@ -13,9 +14,7 @@ use Rattle.read_only.proofs.Keeping.{kept-at-first, also-kept, a-write-keeps-re
 use Rattle.carrying.specs.Ending.{Ending, done, refused, unfitted}
 use Rattle.carrying.specs.Held.{Held, held, inside, reading, onEdac}
 use Rattle.carrying.proofs.Room.{either-way}
-use Rattle.fram_commands.specs.Peek.{peekOf}
-use Rattle.fram_commands.specs.Poke.{pokeOf}
-use Rattle.fram_commands.specs.Crc.{crcOf}
+use Rattle.fram_commands.specs.ByAddress.{peekByAddress, pokeByAddress, crcByAddress}
 use Rattle.file_commands.specs.ReadFile.{readFileOf}
 use Rattle.file_commands.specs.WriteFile.{listed, judgeListOf, Storage, storeListOf, writeFileOf}
 use Rattle.file_commands.proofs.Storing.{files-keep-read-only-bytes}
@@ -33,9 +32,9 @@ use Rattle.judging.specs.declared.fitting.Fit.the-variants.{Fits, Unfit}
 use Rattle.judging.specs.Fitting.{setUpFit}
 use Rattle.judging.specs.Judging.{largestMessage, withReceiver}
 use Rattle.replying.specs.Replies.{codeOf}
-use Rattle.unit.specs.World.{World, lengthsOf, Outcome, withMessage, heldOf}
-use Rattle.unit.specs.Steps.{setUpAs, setUpOf, firstOfFram, answered, stepOf}
-use Rattle.demands.specs.Keeping.{EdacCall, setting-up, stepping, storing, onThis, edacLeft}
+use Rattle.unit.specs.World.{World, lengthsOf, Outcome, withEdac, withMessage, heldOf}
+use Rattle.unit.specs.Steps.{setUpAs, setUpOf, answered, stepOf}
+use Rattle.demands.specs.Keeping.{EdacCall, setting-up, stepping, storing, edacLeft}
 use Rattle.demands.proofs.Cases.{of-any-call}
 use Rattle.demands.proofs.DemandThree.{Keeps, keeps-inside}
 
@@ -61,21 +60,21 @@ keeps-all edac f same (done reply after) = subst (KeepsReadOnly edac) (sym (same
 keeps-all edac f same refused = omega arith
 keeps-all edac f same unfitted = omega arith
 
-command-keeps : (room first code : ℕ) (diagnostics : List ℕ) (now : Held) (field : List ℕ)
-    → Keeps (λ h. KeepsReadOnly (now .edac) (h .edac)) (commandOf room first code diagnostics now field)
-command-keeps room first code diagnostics now field =
-    of-any-command (Keeps (λ h. KeepsReadOnly (now .edac) (h .edac))) room first code diagnostics now field (omega arith) (
+command-keeps : (room code : ℕ) (now : Held) (field : List ℕ)
+    → Keeps (λ h. KeepsReadOnly (now .edac) (h .edac)) (commandOf room code now field)
+command-keeps room code now field =
+    of-any-command (Keeps (λ h. KeepsReadOnly (now .edac) (h .edac))) room code now field (omega arith) (
       still pingOf,
       (
-        keeps-all (now .edac) (λ mode. held mode (now .edac) (now .memory)) (λ m. refl) (initOf (now .mode) field),
+        keeps-all (now .edac) (λ s. held s (now .edac) (now .frams)) (λ m. refl) (initOf (now .standing) field),
         (
-          still (peekOf room first (now .memory .fram) field),
+          still (peekByAddress room (now .frams .bootloader .fram) (now .frams .user .fram) field),
           (
-            keeps-all (now .edac) (λ memory. held (now .mode) (now .edac) memory) (λ m. refl) (pokeOf room first (now .memory) field),
+            keeps-all (now .edac) (λ both. held (now .standing) (now .edac) both) (λ m. refl) (pokeByAddress room (now .standing .locked) (now .frams) field),
             (
-              still (diagnosticOf room diagnostics field),
+              still (diagnosticOf room (now .standing .diagnostics) field),
               (
-                still (crcOf first (now .memory) field),
+                still (crcByAddress (now .frams) field),
                 (
                   still (readFileOf room (now .edac) field),
                   (
@@ -97,7 +96,7 @@ command-keeps room first code diagnostics now field =
     still o = keeps-all (now .edac) (λ _. now) (λ m. refl) o
 
     in-edac : (o : Ending (List ℕ)) → Keeps (KeepsReadOnly (now .edac)) o → Keeps (λ h. KeepsReadOnly (now .edac) (h .edac)) (onEdac now o)
-    in-edac o k = keeps-inside (KeepsReadOnly (now .edac)) (λ h. KeepsReadOnly (now .edac) (h .edac)) (λ edac. held (now .mode) edac (now .memory)) (λ m g. g) o k
+    in-edac o k = keeps-inside (KeepsReadOnly (now .edac)) (λ h. KeepsReadOnly (now .edac) (h .edac)) (λ edac. held (now .standing) edac (now .frams)) (λ m g. g) o k
 
 -- ---- one call
 
@@ -110,9 +109,9 @@ answered-keeps u destination source control field unfitted w k = kept-at-first (
 
 pub a-step-keeps-read-only-bytes : (u : Unit) (byte : ℕ) (w : World) → KeepsReadOnly (w .edac) (stepOf u byte w .world .edac)
 a-step-keeps-read-only-bytes u byte w =
-    of-any-call (λ (o : Outcome). KeepsReadOnly (w .edac) (o .world .edac)) u byte w (λ answer e. kept-at-first (w .edac))
+    of-any-call (λ _ (o : Outcome). KeepsReadOnly (w .edac) (o .world .edac)) u byte w (λ answer e. kept-at-first (w .edac))
     (λ _.
-    let got = receiveOf (largestMessage (u .limit)) (u .receiver) byte (w .message) in
+    let got = receiveOf (largestMessage (u .limit)) (u .receiver) byte (w .buffers .message) in
     let next = withReceiver u (got .receiver) in
     let lent = withMessage w (got .message) in
     record {
@@ -120,8 +119,8 @@ a-step-keeps-read-only-bytes u byte w =
       elsewhere = kept-at-first (w .edac);
       dropped = λ answer which number four silent. kept-at-first (w .edac);
       commanded = λ destination source control field short.
-          answered-keeps next destination source control field (commandOf (u .limit) firstOfFram (codeOf control) (w .diagnostics) (heldOf next lent) field) lent
-          (command-keeps (u .limit) firstOfFram (codeOf control) (w .diagnostics) (heldOf next lent) field);
+          answered-keeps next destination source control field (commandOf (u .limit) (codeOf control) (heldOf next lent) field) lent
+          (command-keeps (u .limit) (codeOf control) (heldOf next lent) field);
     })
 
 -- storing a list, fit or not, in memory of any length
@@ -133,11 +132,11 @@ storing-keeps-read-only-bytes limit edac list =
     (λ _. kept-at-first edac)
 
 -- a set-up leaves EDAC memory as it is
-pub a-set-up-keeps-edac : (address limit : ℕ) (w : World) → setUpOf address limit w .world .edac ≡ w .edac
+pub a-set-up-keeps-edac : (address limit : ℕ) (locked : Bool) (w : World) → setUpOf address limit locked w .world .edac ≡ w .edac
 unfolding setUpOf
-a-set-up-keeps-edac address limit w = apart (setUpFit address limit (lengthsOf w))
+a-set-up-keeps-edac address limit locked w = apart (setUpFit address limit (lengthsOf w))
   where
-    apart : (f : Fit) → setUpAs f address limit w .world .edac ≡ w .edac
+    apart : (f : Fit) → setUpAs f address limit locked w .world .edac ≡ w .edac
     apart Fits = refl
     apart (Unfit answer) = refl
 
@@ -148,11 +147,11 @@ a-set-up-keeps-edac address limit w = apart (setUpFit address limit (lengthsOf w
 -- long as it was, and each of its read-only bytes has the value that it had.
 pub no-bytes-change-a-read-only-byte : (edac : List ℕ) (calls : List EdacCall) → KeepsReadOnly edac (edacLeft edac calls)
 no-bytes-change-a-read-only-byte edac [] = kept-at-first edac
-no-bytes-change-a-read-only-byte edac (setting-up address limit w ∷ calls) =
-    also-kept (subst (KeepsReadOnly edac) (sym (a-set-up-keeps-edac address limit (onThis edac w))) (kept-at-first edac))
-    (no-bytes-change-a-read-only-byte (setUpOf address limit (onThis edac w) .world .edac) calls)
+no-bytes-change-a-read-only-byte edac (setting-up address limit locked w ∷ calls) =
+    also-kept (subst (KeepsReadOnly edac) (sym (a-set-up-keeps-edac address limit locked (withEdac w edac))) (kept-at-first edac))
+    (no-bytes-change-a-read-only-byte (setUpOf address limit locked (withEdac w edac) .world .edac) calls)
 no-bytes-change-a-read-only-byte edac (stepping u c ∷ calls) =
-    also-kept (a-step-keeps-read-only-bytes u (c .byte) (onThis edac (c .lent)))
-    (no-bytes-change-a-read-only-byte (stepOf u (c .byte) (onThis edac (c .lent)) .world .edac) calls)
+    also-kept (a-step-keeps-read-only-bytes u (c .byte) (withEdac (c .lent) edac))
+    (no-bytes-change-a-read-only-byte (stepOf u (c .byte) (withEdac (c .lent) edac) .world .edac) calls)
 no-bytes-change-a-read-only-byte edac (storing limit list ∷ calls) =
     also-kept (storing-keeps-read-only-bytes limit edac list) (no-bytes-change-a-read-only-byte (storeListOf limit edac list .edac) calls)

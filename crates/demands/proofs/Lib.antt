@@ -2,11 +2,13 @@ pub mod Cases
 pub mod DemandOne
 pub mod DemandTwo
 pub mod Orders
+pub mod Ranges
 pub mod DemandThree
 pub mod Limits
 pub mod Keeping
 pub mod Storing
 pub mod Doing
 pub mod Asking
+pub mod Locked
 pub mod Worked
 pub mod Settled

@@ -1,7 +1,7 @@
 -- 02, T-06: what a limit means for bytes on the line. (That the round trip and the demands hold under every limit is said where they stand: DemandOne,
 -- DemandTwo, DemandThree.) Assumes nothing.
 use mathlib.Core.Path.{_≡_, refl, sym, ap, ap₂, _∙_}
-use mathlib.Core.Bool.{true, false, false≢true}
+use mathlib.Core.Bool.{Bool, true, false, _&&_, false≢true}
 use mathlib.Core.Logic.{_⊎_, inl, inr}
 use mathlib.Core.List.{List, [], _∷_}
 use Prim.Native.Nat.{ℕ, _≤_, _<_}
@@ -19,7 +19,7 @@ use Rattle.answer.specs.Answers.{numberOf}
 use Rattle.judging.specs.declared.Unit.{Unit}
 use Rattle.carrying.specs.Ending.{longestData, isLimit}
 use Rattle.judging.specs.declared.fitting.Fit.the-variants.{Fits, Unfit}
-use Rattle.judging.specs.Fitting.{framFits, framAsSetUp, largestCount, limitFit, countFit, setUpFit, stepFit}
+use Rattle.judging.specs.Fitting.{framFits, framsAsSetUp, largestCount, limitFit, countFit, setUpFit, stepFit}
 use Rattle.judging.specs.Judging.{largestMessage, dropped, verdictOf, withReceiver, judgeOf}
 use Rattle.judging.proofs.Serving.{a-served-step-is-limited, and-then}
 use Rattle.judging.proofs.Ways.{an-oversize}
@@ -31,11 +31,11 @@ use Rattle.demands.proofs.DemandTwo.{served, got}
 
 -- Whatever the record, the byte and what is lent, no byte of the message buffer behind the first limit + 5 is written.
 pub no-byte-is-stored-past-the-limit : (u : Unit) (byte : ℕ) (w : World)
-    → drop (largestMessage (u .limit)) (stepOf u byte w .world .message) ≡ drop (largestMessage (u .limit)) (w .message)
+    → drop (largestMessage (u .limit)) (stepOf u byte w .world .buffers .message) ≡ drop (largestMessage (u .limit)) (w .buffers .message)
 unfolding answered
 no-byte-is-stored-past-the-limit u byte w =
-    let kept = bytes-at-or-past-the-largest-never-change (largestMessage (u .limit)) (byte ∷ []) (u .receiver) (w .message) in
-    of-any-call (λ (o : Outcome). drop (largestMessage (u .limit)) (o .world .message) ≡ drop (largestMessage (u .limit)) (w .message)) u byte w (λ answer e. refl)
+    let kept = bytes-at-or-past-the-largest-never-change (largestMessage (u .limit)) (byte ∷ []) (u .receiver) (w .buffers .message) in
+    of-any-call (λ _ (o : Outcome). drop (largestMessage (u .limit)) (o .world .buffers .message) ≡ drop (largestMessage (u .limit)) (w .buffers .message)) u byte w (λ answer e. refl)
     (λ _. record { taken = kept; elsewhere = kept; dropped = λ answer which number four silent. kept; commanded = λ destination source control field short. kept })
 
 -- ---- 29
@@ -44,34 +44,34 @@ no-byte-is-stored-past-the-limit u byte w =
 pub with-no-limit-no-byte-is-served : (u : Unit) (byte : ℕ) (w : World) → isLimit (u .limit) ≡ false
     → (20 ≤ numberOf (stepOf u byte w .answer)) × (stepOf u byte w .unit ≡ u) × (stepOf u byte w .world ≡ w)
 with-no-limit-no-byte-is-served u byte w none =
-    of-any-call (λ (o : Outcome). (20 ≤ numberOf (o .answer)) × (o .unit ≡ u) × (o .world ≡ w)) u byte w
+    of-any-call (λ _ (o : Outcome). (20 ≤ numberOf (o .answer)) × (o .unit ≡ u) × (o .world ≡ w)) u byte w
     (λ answer e. (a-refused-step-has-its-number u (lengthsOf w) answer e, refl, refl))
     (λ e. absurd (false≢true (sym none ∙ a-served-step-is-limited u (lengthsOf w) e)))
 
 -- where nothing of 20 to 26 is due the answer is 29,
-pub with-no-limit-a-byte-is-29 : (u : Unit) (message : List ℕ) (c : Call) → u .receiver .count ≤ largestCount → Suits (u .address) (u .«fram_len») (length message) c
+pub with-no-limit-a-byte-is-29 : (u : Unit) (message : List ℕ) (c : Call) → u .receiver .count ≤ largestCount → Suits u (length message) c
     → isLimit (u .limit) ≡ false → stepOf u (c .byte) (lentTo message c) ≡ outcome u BadLimit (lentTo message c)
 unfolding stepOf judgeOf stepFit servedOf
 with-no-limit-a-byte-is-29 u message c low suits none =
     let next : countFit (u .receiver .count) (limitFit (u .limit)) ≡ Unfit BadLimit = simp (le-leb (u .receiver .count) largestCount low, none) in
     let refuses : stepFit u (lengthsOf (lentTo message c)) ≡ Unfit BadLimit
-    = sym (and-then (u .address) (framAsSetUp (length (c .lent .fram)) (u .«fram_len»)) (lengthsOf (lentTo message c)) (countFit (u .receiver .count) (limitFit (u .limit))) suits) ∙ next in
+    = sym (and-then (u .address) (framsAsSetUp u (lengthsOf (lentTo message c))) (lengthsOf (lentTo message c)) (countFit (u .receiver .count) (limitFit (u .limit))) suits) ∙ next in
     simp refuses
 
 -- and so it is of a set-up of which, at another limit, nothing is refused.
-pub with-no-limit-a-set-up-is-29 : (address limit : ℕ) (w : World) → setUpFit address longestData (lengthsOf w) ≡ Fits → isLimit limit ≡ false
-    → setUpOf address limit w ≡ outcome nobody BadLimit w
+pub with-no-limit-a-set-up-is-29 : (address limit : ℕ) (locked : Bool) (w : World) → setUpFit address longestData (lengthsOf w) ≡ Fits → isLimit limit ≡ false
+    → setUpOf address limit locked w ≡ outcome nobody BadLimit w
 unfolding setUpOf setUpFit
-with-no-limit-a-set-up-is-29 address limit w fits none =
+with-no-limit-a-set-up-is-29 address limit locked w fits none =
     let next : limitFit limit ≡ Unfit BadLimit = simp none in
     let refuses : setUpFit address limit (lengthsOf w) ≡ Unfit BadLimit
-    = sym (and-then address (framFits (length (w .fram))) (lengthsOf w) (limitFit limit) fits) ∙ next in
+    = sym (and-then address (framFits (length (w .frams .bootloader .fram)) && framFits (length (w .frams .user .fram))) (lengthsOf w) (limitFit limit) fits) ∙ next in
     simp refuses
 
 -- ---- counts that were lent
 
 -- A record was lent with a count above limit + 5, which no message on the bus has, and calls that are served:
-module _ (u : Unit) (message : List ℕ) (c : Call) (serves : Serves u) (suits : Suits (u .address) (u .«fram_len») (length message) c)
+module _ (u : Unit) (message : List ℕ) (c : Call) (serves : Serves u) (suits : Suits u (length message) c)
     (above : largestMessage (u .limit) < u .receiver .count) where
   abbrev next : Outcome
   next = stepOf u (c .byte) (lentTo message c)

@@ -1,17 +1,18 @@
 -- What a command that is sent to a unit leaves, and what it sends. Assumes nothing.
 use mathlib.Core.Path.{_≡_, refl, sym, ap, _∙_, subst}
-use mathlib.Core.Bool.{true, cond}
+use mathlib.Core.Bool.{true, cond, _&&_}
 use mathlib.Core.List.{List, [], _∷_}
-use Prim.Native.Nat.{ℕ, zero, suc, _≤_, _<_}
+use Prim.Native.Nat.{ℕ, zero, suc, _%_, _≤_, _<_}
 use native.Mathlib.Omega.{arith}
-use borrow.Author.Tests.{eq-eqb}
+use borrow.Author.Tests.{eq-eqb, leb-true}
+use lib.Dec.{eqb, leb}
 use lib.ListN.{length, getD}
 use Rattle.line.specs.Packing.{packedOf}
 use Rattle.line.specs.Receiver.{opened}
 use Rattle.memory.specs.Edac.{edacSize}
 use Rattle.carrying.specs.declared.Mode.the-variants.{Application}
 use Rattle.carrying.specs.Ending.{Ending, done, refused, unfitted}
-use Rattle.carrying.specs.Held.{Held, onEdac}
+use Rattle.carrying.specs.Held.{Which, ofBootloader, ofUser, framOf, Held, onEdac}
 use Rattle.carrying.proofs.Room.{either-way}
 use Rattle.file_commands.specs.WriteFile.{writeFileOf}
 use Rattle.command.proofs.Codes.{in-application}
@@ -19,11 +20,13 @@ use Rattle.answer.specs.declared.Answer.the-variants.{Elsewhere}
 use Rattle.answer.specs.Answers.{numberOf}
 use Rattle.judging.specs.declared.Unit.{Unit}
 use Rattle.judging.specs.Judging.{withReceiver}
-use Rattle.judging.proofs.Serving.{a-served-step-fits}
+use Rattle.judging.specs.declared.fitting.Fit.the-variants.{Fits}
+use Rattle.judging.specs.Fitting.{framFits, framAsSetUp, framsAsSetUp}
+use Rattle.judging.proofs.Serving.{both, all-passed, a-served-step-fits}
 use Rattle.replying.specs.Replies.{codeOf, polls, replyMessage, Said, saying, saidOf}
 use Rattle.unit.specs.World.{World, lengthsOf, Outcome, outcome, heldOf}
-use Rattle.unit.specs.Steps.{firstOfFram, answered, orderedOf}
-use Rattle.demands.specs.Calls.{Call, Fed, lentTo, fedOf, delivering, Bytes}
+use Rattle.unit.specs.Steps.{answered, orderedOf}
+use Rattle.demands.specs.Calls.{Call, Fed, lentTo, fedOf, delivering, lentLengths, Bytes}
 use Rattle.demands.specs.Orders.{Sends, withItsMessage, leftBy, sentBy, cameTo}
 use Rattle.demands.proofs.DemandTwo.{a-packed-command-is-carried-out, what-is-sent-is-the-packed-answer, a-call-that-suits-fits}
 
@@ -36,11 +39,15 @@ each-a-byte (byte ∷ l) all (suc i) = each-a-byte l (all .1) i
 done-is-no-fault : {M : Type 0} {reply : List ℕ} {after : M} → done reply after ≡ unfitted → ⊥
 done-is-no-fault e = let z : _≡_ {A = ℕ} 0 1 = cc in absurd (omega arith)
 
+-- how long an FRAM can be
+pub no-longer : (size : ℕ) → framFits size ≡ true → size ≤ 262144
+no-longer size fits = leb-true size 262144 (both (leb 256 size) (leb size 262144) (both (leb 256 size && leb size 262144) (eqb (size % 256) 0) fits .0) .1)
+
 -- what a WRITE FILE comes to in application mode
 pub a-WRITE-FILE-comes-to : (u : Unit) (c : Call) (control : ℕ) (list : List ℕ) → codeOf control ≡ 0x08 → u .mode ≡ Application
     → cameTo u c control list ≡ onEdac (heldOf u (c .lent)) (writeFileOf (u .limit) (c .lent .edac) list)
 a-WRITE-FILE-comes-to u c control list code mode =
-    in-application (u .limit) firstOfFram (codeOf control) (c .lent .diagnostics) (heldOf u (c .lent)) list 0x08
+    in-application (u .limit) (codeOf control) (heldOf u (c .lent)) list 0x08
     (onEdac (heldOf u (c .lent)) (writeFileOf (u .limit) (c .lent .edac) list)) code mode refl
 
 -- what is known of a command that answered 1 or 2
@@ -49,7 +56,7 @@ pub record WasDone (o : Outcome) (came : Ending Held) : Type 0 where
   pub after : Held
   pub is : came ≡ done reply after
   pub edac : o .world .edac ≡ after .edac
-  pub fram : o .world .fram ≡ after .memory .fram
+  pub frams : o .world .frams ≡ after .frams
 
 module _ (u : Unit) (message : List ℕ) (source control : ℕ) (field : List ℕ) (calls : List Call) (c : Call) (sends : Sends u message source control field calls c) where
   abbrev laid : World
@@ -77,11 +84,28 @@ module _ (u : Unit) (message : List ℕ) (source control : ℕ) (field : List �
   pub edac-is-whole : length (c .lent .edac) ≡ edacSize
   edac-is-whole = a-served-step-fits u (lengthsOf (lentTo message c)) (a-call-that-suits-fits u message c (sends .serves) (sends .suits)) .edac-fits
 
+  -- each FRAM that the closing call lends has at most 262,144 bytes
+  pub a-lent-FRAM-is-no-longer : (which : Which) → length (framOf which (c .lent .frams) .fram) ≤ 262144
+  a-lent-FRAM-is-no-longer which = by which
+    where
+      fits : framsAsSetUp u (lentLengths (length message) c) ≡ true
+      fits = all-passed (u .address) (framsAsSetUp u (lentLengths (length message) c)) (lentLengths (length message) c) Fits (sends .suits) .fram-tested
+
+      each : (framAsSetUp (length (c .lent .frams .bootloader .fram)) (u .«bootloader_len») ≡ true) × (framAsSetUp (length (c .lent .frams .user .fram)) (u .«fram_len») ≡ true)
+      each = both (framAsSetUp (length (c .lent .frams .bootloader .fram)) (u .«bootloader_len»)) (framAsSetUp (length (c .lent .frams .user .fram)) (u .«fram_len»)) fits
+
+      of-one : (size setUp : ℕ) → framAsSetUp size setUp ≡ true → size ≤ 262144
+      of-one size setUp is = no-longer size (both (framFits size) (eqb size setUp) is .0)
+
+      by : (x : Which) → length (framOf x (c .lent .frams) .fram) ≤ 262144
+      by ofBootloader = of-one (length (c .lent .frams .bootloader .fram)) (u .«bootloader_len») (each .0)
+      by ofUser = of-one (length (c .lent .frams .user .fram)) (u .«fram_len») (each .1)
+
   -- an answer of 1 or 2 is that of a command that is done
   answered-so : (o : Ending Held) → numberOf (answered (withReceiver u opened) (u .address) source control field o laid .answer) ≤ 2
       → WasDone (answered (withReceiver u opened) (u .address) source control field o laid) o
   unfolding answered saidOf saying
-  answered-so (done reply after) low = record { reply = reply; after = after; is = refl; edac = refl; fram = refl }
+  answered-so (done reply after) low = record { reply = reply; after = after; is = refl; edac = refl; frams = refl }
   answered-so refused low = absurd (either-way (λ (s : Said). numberOf (s .answer) ≤ 2 → ⊥) (polls control) _ _ (λ _ h. omega arith) (λ _ h. omega arith) low)
   answered-so unfitted low = absurd (omega arith)
 

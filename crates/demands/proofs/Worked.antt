@@ -11,8 +11,11 @@ use Rattle.memory.specs.Counts.{countedUp}
 use Rattle.read_only.specs.ReadOnly.{readOnly, keeping, written}
 use Rattle.memory.specs.Edac.{bodySize, fileShown}
 use Rattle.read_only.specs.Files.{fileStored}
-use Rattle.blocks.specs.Fram.{freshSums, freshFrom, placeOf}
+use Rattle.memory.specs.Status.{statusWritten}
+use Rattle.blocks.specs.Fram.{freshSums, freshFrom, refreshed, storeOf, placeOf}
 use Rattle.fram_commands.specs.Peek.{peekOf, peekRangeOf}
+use Rattle.fram_commands.specs.Poke.{pokeOf}
+use Rattle.fram_commands.specs.ByAddress.{peekByAddress, pokeByAddress}
 use Rattle.file_commands.specs.ReadFile.{filesShown, filesWidth, readFileOf}
 use Rattle.file_commands.specs.WriteFile.{judgeListOf, writeFileOf}
 use Rattle.edac_commands.specs.WriteEdac.{writeEdacOf}
@@ -26,20 +29,21 @@ use Rattle.unit.specs.Steps.{setUpOf, answered, commandedOf, servedOf, stepOf}
 use Rattle.demands.specs.Worked.{WorkedExamples}
 
 pub the-worked-examples-hold : WorkedExamples
-unfolding stepOf setUpOf setUpFit stepFit lengthsFit freshSums freshFrom judgeOf receivedOf receiveOf insideOf afterEscapeOf closedOf storedOf countedOf verdictOf runOf servedOf countedUp commandedOf answered saidOf saying sealed replyMessage commandOf initOf peekOf peekRangeOf placeOf escapedOf begun sumOf sumFrom byteStep bitSteps bitStep readFileOf filesShown filesWidth fileShown bodySize judgeListOf writeFileOf writeEdacOf listedFrom fileStored written keeping readOnly stored diagnosticOf allChannels channelsShown
+unfolding stepOf setUpOf setUpFit stepFit lengthsFit freshSums freshFrom judgeOf receivedOf receiveOf insideOf afterEscapeOf closedOf storedOf countedOf verdictOf runOf servedOf countedUp commandedOf answered saidOf saying sealed replyMessage commandOf initOf statusWritten peekByAddress peekOf peekRangeOf pokeByAddress pokeOf storeOf refreshed placeOf escapedOf begun sumOf sumFrom byteStep bitSteps bitStep readFileOf filesShown filesWidth fileShown bodySize judgeListOf writeFileOf writeEdacOf listedFrom fileStored written keeping readOnly stored diagnosticOf allChannels channelsShown
 the-worked-examples-hold = record {
   P1 = sum.P1;
   P2 = sum.P2;
   P3 = sum.P3;
   P4 = sum.P4;
   P5 = sum.P5;
-  P6 = (refl, refl, refl, refl, refl);
-  P7 = (line.P7 .0, line.P7 .1, line.P7 .2, (refl, refl, refl, refl, refl), refl, (refl, refl, refl, refl, refl), refl, (refl, refl, refl, refl, refl));
+  P6 = (refl, refl, refl, refl, refl, refl);
+  P7 = (line.P7 .0, line.P7 .1, line.P7 .2, (refl, refl, refl, refl, refl, refl), refl, (refl, refl, refl, refl, refl, refl), refl, (refl, refl, refl, refl, refl, refl));
   P8 = sum.P8;
-  P9 = ((refl, refl, refl, refl, refl), (refl, refl, refl, refl, refl), (refl, refl, refl, refl, refl));
-  P10 = (refl, refl, refl, refl, refl);
-  P11 = (refl, refl, refl, refl, refl);
-  P12 = (refl, refl, refl, refl, refl);
-  T02 = ((refl, refl, refl, refl, refl), (refl, refl, refl, refl, refl));
-  T06 = (refl, (refl, refl, refl, refl, refl), (refl, refl, refl, refl, refl), (refl, refl, refl, refl, refl));
+  P9 = ((refl, refl, refl, refl, refl, refl), (refl, refl, refl, refl, refl, refl), (refl, refl, refl, refl, refl, refl));
+  P10 = (refl, refl, refl, refl, refl, refl);
+  P11 = (refl, refl, refl, refl, refl, refl);
+  P12 = (refl, refl, refl, refl, refl, refl);
+  T02 = ((refl, refl, refl, refl, refl, refl), (refl, refl, refl, refl, refl, refl));
+  T06 = (refl, (refl, refl, refl, refl, refl, refl), (refl, refl, refl, refl, refl, refl), (refl, refl, refl, refl, refl, refl));
+  T07 = (refl, refl, refl, refl, refl);
 }

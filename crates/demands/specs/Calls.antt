@@ -10,18 +10,20 @@ use Rattle.line.specs.declared.receiver.Receiver.{Receiver}
 use Rattle.line.specs.declared.receiver.Heard.{Heard}
 use Rattle.line.specs.declared.receiver.Heard.the-variants as heard
 use Rattle.line.specs.Receiver.{closedOf}
-use Rattle.blocks.specs.Fram.{Kept, kept, freshSums}
+use Rattle.blocks.specs.Fram.{Kept, freshSums}
 use Rattle.carrying.specs.Ending.{isLimit, Ending, done, refused, unfitted}
-use Rattle.carrying.specs.Held.{Held}
+use Rattle.carrying.specs.Held.{Frams, Which, framOf, Held}
+use Rattle.fram_commands.specs.Windows.{firstOf}
 use Rattle.answer.specs.declared.Answer.{Answer}
 use Rattle.answer.specs.declared.Answer.the-variants.{Taken, Elsewhere}
 use Rattle.judging.specs.declared.Unit.{Unit}
 use Rattle.judging.specs.declared.fitting.Fit.the-variants.{Fits}
-use Rattle.judging.specs.Fitting.{framAsSetUp, largestCount, lengthsFit}
+use Rattle.judging.specs.declared.Lengths.{Lengths}
+use Rattle.judging.specs.Fitting.{framsAsSetUp, largestCount, lengthsFit}
 use Rattle.judging.specs.Judging.{largestMessage, verdictOf}
 use Rattle.replying.specs.Replies.{replyMessage}
-use Rattle.unit.specs.World.{World, world, Outcome, outcome, withMessage}
-use Rattle.unit.specs.Steps.{firstOfFram, orderedOf, servedOf, stepOf}
+use Rattle.unit.specs.World.{World, lengthsOf, Outcome, outcome, withFrams, withMessage}
+use Rattle.unit.specs.Steps.{orderedOf, servedOf, stepOf}
 
 -- A call: its byte, and what it lends.
 pub record Call : Type 0 where
@@ -46,7 +48,7 @@ lentTo message c = withMessage (c .lent) message
 abbrev pub fedOf : Unit → List ℕ → List Call → Call → Fed
 fedOf u message [] c = record { answers = []; last = stepOf u (c .byte) (lentTo message c) }
 fedOf u message (d ∷ calls) c =
-    let o = stepOf u (d .byte) (lentTo message d) in answering (o .answer) (fedOf (o .unit) (o .world .message) calls c)
+    let o = stepOf u (d .byte) (lentTo message d) in answering (o .answer) (fedOf (o .unit) (o .world .buffers .message) calls c)
 
 abbrev pub bytesOf : List Call → List ℕ
 bytesOf [] = []
@@ -56,24 +58,27 @@ bytesOf (d ∷ calls) = d .byte ∷ bytesOf calls
 abbrev pub delivering : ℕ → Outcome → Fed
 delivering n o = record { answers = replicate n Taken; last = o }
 
--- Lent with the lengths that a unit of this address, set up with so much FRAM, asks for, with a message buffer of this length.
-abbrev pub Suits : ℕ → ℕ → ℕ → Call → Type 0
-Suits address setUp size c =
-    lengthsFit address (framAsSetUp (length (c .lent .fram)) setUp)
-    (record {
-      edac = length (c .lent .edac);
-      fram = length (c .lent .fram);
-      sums = length (c .lent .sums);
-      diagnostics = length (c .lent .diagnostics);
+-- What a call lends by its lengths, with a message buffer of this length.
+abbrev pub lentLengths : ℕ → Call → Lengths
+lentLengths size c =
+    let l = lengthsOf (c .lent) in record {
+      edac = l .edac;
+      bootloader = l .bootloader;
+      «bootloader_sums» = l .«bootloader_sums»;
+      fram = l .fram;
+      sums = l .sums;
+      diagnostics = l .diagnostics;
       message = size;
-      reply = length (c .lent .reply);
-    })
-    Fits
-    ≡ Fits
+      reply = l .reply;
+    }
 
-abbrev pub AllSuit : ℕ → ℕ → ℕ → List Call → Type 0
-AllSuit address setUp size [] = Prim.Unit {0}
-AllSuit address setUp size (d ∷ calls) = Suits address setUp size d × AllSuit address setUp size calls
+-- Lent with the lengths that a unit of this address, set up with so much FRAM, asks for, with a message buffer of this length.
+abbrev pub Suits : Unit → ℕ → Call → Type 0
+Suits u size c = lengthsFit (u .address) (framsAsSetUp u (lentLengths size c)) (lentLengths size c) Fits ≡ Fits
+
+abbrev pub AllSuit : Unit → ℕ → List Call → Type 0
+AllSuit u size [] = Prim.Unit {0}
+AllSuit u size (d ∷ calls) = Suits u size d × AllSuit u size calls
 
 -- A record that neither 26 nor 29 refuses: its count is at most 1,034, and its limit 260 to 1,028.
 abbrev pub Serves : Unit → Type 0
@@ -85,7 +90,7 @@ Idle r = (closedOf (r .place) (r .count) ≡ heard.Taken) ⊎ (closedOf (r .plac
 
 -- What a served byte comes to, by what was heard.
 abbrev pub comesTo : Unit → Heard → World → Outcome
-comesTo u h w = servedOf u (verdictOf (largestMessage (u .limit)) (u .address) h (w .message)) w
+comesTo u h w = servedOf u (verdictOf (largestMessage (u .limit)) (u .address) h (w .buffers .message)) w
 
 -- What a sound message comes to, by its parts: for this unit's address the command, answered; for another nothing.
 abbrev pub addressedOf : Unit → ℕ → ℕ → ℕ → List ℕ → World → Outcome
@@ -105,7 +110,7 @@ Bytes (byte ∷ bytes) = (byte < 256) × Bytes bytes
 
 -- ---- demand 3: memory, sums and record are the unit's alone
 
--- A call with the unit's own FRAM and sums in place of those that it names, or with those that it names. All that a call names may
+-- A call with the unit's own FRAMs and sums in place of those that it names, or with those that it names. All that a call names may
 -- hold anything and have any length: a call that is refused is a call.
 pub data Lending : Type 0 where
   its-memory : Call → Lending
@@ -114,30 +119,26 @@ pub data Lending : Type 0 where
 -- What passes from call to call.
 pub record Own : Type 0 where
   pub unit : Unit
-  pub memory : Kept
+  pub frams : Frams
 
-abbrev pub own : Unit → Kept → Own
-own u memory = record { unit = u; memory = memory }
+abbrev pub own : Unit → Frams → Own
+own u frams = record { unit = u; frams = frams }
 
 abbrev pub ownOf : Outcome → Own
-ownOf o = own (o .unit) (kept (o .world .fram) (o .world .sums))
-
--- What is lent, with the unit's own FRAM and sums in place of those named.
-abbrev pub withMemory : World → Kept → World
-withMemory w memory = world (w .edac) (memory .fram) (memory .sums) (w .diagnostics) (w .message) (w .reply)
+ownOf o = own (o .unit) (o .world .frams)
 
 -- What the unit has after calls one after the other.
 abbrev pub calledOf : Own → List Lending → Own
 calledOf s [] = s
-calledOf s (its-memory c ∷ calls) = calledOf (ownOf (stepOf (s .unit) (c .byte) (withMemory (c .lent) (s .memory)))) calls
-calledOf s (another c ∷ calls) = calledOf (own (stepOf (s .unit) (c .byte) (c .lent) .unit) (s .memory)) calls
+calledOf s (its-memory c ∷ calls) = calledOf (ownOf (stepOf (s .unit) (c .byte) (withFrams (c .lent) (s .frams)))) calls
+calledOf s (another c ∷ calls) = calledOf (own (stepOf (s .unit) (c .byte) (c .lent) .unit) (s .frams)) calls
 
 -- Each kept sum is the CRC of its block as it stands.
 abbrev pub Right : Kept → Type 0
 Right memory = memory .sums ≡ freshSums (memory .fram)
 
--- A range inside the fitted memory, first byte not after last, by its addresses.
-pub record Inside (memory : Kept) (first last : ℕ) : Type 0 where
-  pub starts : firstOfFram ≤ first
+-- A range inside one of the fitted memories, first byte not after last, by its addresses.
+pub record Inside (which : Which) (now : Frams) (first last : ℕ) : Type 0 where
+  pub starts : firstOf which ≤ first
   pub forward : first ≤ last
-  pub ends : last < firstOfFram + length (memory .fram)
+  pub ends : last < firstOf which + length (framOf which now .fram)

@@ -1,3 +1,4 @@
+pub mod Locking
 pub mod Leaving
 pub mod Calls
 pub mod Orders

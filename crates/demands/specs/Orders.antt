@@ -7,14 +7,14 @@ use lib.ListN.{length, take, drop}
 use Rattle.line.specs.Framing.{fend}
 use Rattle.line.specs.Packing.{bodyOf}
 use Rattle.carrying.specs.Ending.{Ending}
-use Rattle.carrying.specs.Held.{Held, inside}
+use Rattle.carrying.specs.Held.{Which, framOf, withFram, Held, inside}
 use Rattle.carrying.specs.Storing.{withData}
 use Rattle.command.specs.Command.{commandOf}
 use Rattle.answer.specs.Answers.{sentOf}
 use Rattle.judging.specs.declared.Unit.{Unit}
 use Rattle.replying.specs.Replies.{codeOf, polls, sealed}
-use Rattle.unit.specs.World.{World, world, Outcome, heldOf}
-use Rattle.unit.specs.Steps.{firstOfFram}
+use Rattle.blocks.specs.Fram.{kept}
+use Rattle.unit.specs.World.{World, Outcome, withEdac, withFrams, heldOf}
 use Rattle.demands.specs.Calls.{Call, lentTo, fedOf, bytesOf, Suits, AllSuit, Serves, Idle, Bytes}
 
 -- A command for this unit, with data of at most `most` bytes: sealed with its CRC, packed, and sent with both its FENDs, the last of them by the call
@@ -26,8 +26,8 @@ pub record SendsUpTo (most : ℕ) (u : Unit) (message : List ℕ) (source contro
   pub short : length field ≤ most
   pub packed : bytesOf calls ≡ fend ∷ bodyOf (sealed (u .address ∷ source ∷ control ∷ field))
   pub ends : c .byte ≡ fend
-  pub suiting : AllSuit (u .address) (u .«fram_len») (length message) calls
-  pub suits : Suits (u .address) (u .«fram_len») (length message) c
+  pub suiting : AllSuit u (length message) calls
+  pub suits : Suits u (length message) c
 
 -- One with data of legal length: as much as the unit's limit allows.
 abbrev pub Sends : Unit → List ℕ → ℕ → ℕ → List ℕ → List Call → Call → Type 0
@@ -43,7 +43,7 @@ abbrev pub leftBy : Unit → List ℕ → List Call → Call → Outcome
 leftBy u message calls c = fedOf u message calls c .last
 
 abbrev pub sentBy : Outcome → List ℕ
-sentBy o = take (sentOf (o .answer)) (o .world .reply)
+sentBy o = take (sentOf (o .answer)) (o .world .buffers .reply)
 
 -- The answer to a command that is done: 1 with poll set, 2 with poll clear.
 abbrev pub doneAnswer : ℕ → ℕ
@@ -55,16 +55,15 @@ refusedAnswer control = cond (polls control) 3 4
 
 -- What a command comes to on what a call lends.
 abbrev pub cameTo : Unit → Call → ℕ → List ℕ → Ending Held
-cameTo u c control field = commandOf (u .limit) firstOfFram (codeOf control) (c .lent .diagnostics) (heldOf u (c .lent)) field
+cameTo u c control field = commandOf (u .limit) (codeOf control) (heldOf u (c .lent)) field
 
--- The call with another FRAM, or another EDAC memory, in place of the one that it names.
-abbrev pub withFram : Call → List ℕ → Call
-withFram c fram =
-    record { byte = c .byte; lent = world (c .lent .edac) fram (c .lent .sums) (c .lent .diagnostics) (c .lent .message) (c .lent .reply) }
+-- The call with other bytes in one of the FRAMs, or another EDAC memory, in place of what it names.
+abbrev pub lendingFram : Which → Call → List ℕ → Call
+lendingFram which c fram =
+    let now = c .lent .frams in record { byte = c .byte; lent = withFrams (c .lent) (withFram which now (kept fram (framOf which now .sums))) }
 
-abbrev pub withEdac : Call → List ℕ → Call
-withEdac c edac =
-    record { byte = c .byte; lent = world edac (c .lent .fram) (c .lent .sums) (c .lent .diagnostics) (c .lent .message) (c .lent .reply) }
+abbrev pub lendingEdac : Call → List ℕ → Call
+lendingEdac c edac = record { byte = c .byte; lent = withEdac (c .lent) edac }
 
 -- The ending of a command that changes nothing of what is held, with other data in its reply.
 abbrev pub showing : Held → (List ℕ → List ℕ) → Ending Held → Ending Held

@@ -1,4 +1,4 @@
--- 01, "Small examples": P1 to P12, and one each for 02, T-02 and T-06, under one statement. Those that a unit can show are run on one, byte by
+-- 01, "Small examples": P1 to P12, and one each for 02, T-02, T-06 and T-07, under one statement. Those that a unit can show are run on one, byte by
 -- byte.
 -- Assumes nothing.
 use mathlib.Core.Path.{_≡_}
@@ -10,6 +10,7 @@ use Rattle.crc.specs.Sum.{sumOf}
 use Rattle.crc.specs.Joining.{joinOf, withPart}
 use Rattle.line.specs.Unpacking.{unpackOf}
 use Rattle.memory.specs.Bytes.{stored}
+use Rattle.blocks.specs.Fram.{Kept, kept}
 use Rattle.judging.specs.declared.Unit.{Unit}
 use Rattle.answer.specs.Answers.{numberOf, sentOf}
 use Rattle.answer.specs.declared.Answer.the-variants.{BadLimit}
@@ -32,16 +33,19 @@ seenOf u w (byte ∷ bytes) =
     let rest = seenOf (o .unit) (o .world) bytes in
     record {
       answers = numberOf (o .answer) ∷ rest .answers;
-      sent = take (sentOf (o .answer)) (o .world .reply) ++ rest .sent;
+      sent = take (sentOf (o .answer)) (o .world .buffers .reply) ++ rest .sent;
       left = rest .left;
     }
 
--- A fresh unit 0x41 with this limit and this EDAC memory, all else being zeros: what bytes show. In 01 the limit is 1,028.
+-- A fresh unit 0x41 with this limit and this EDAC memory, unlocked, all else being zeros: what bytes show. In 01 the limit is 1,028.
+abbrev pub blank : Kept
+blank = kept (replicate 256 0) (replicate 1 0)
+
 abbrev pub lentWith : List ℕ → World
-lentWith edac = world edac (replicate 256 0) (replicate 1 0) (replicate 31 0) (replicate 1033 0) (replicate 2068 0)
+lentWith edac = world edac blank blank (replicate 31 0) (replicate 1033 0) (replicate 2068 0)
 
 abbrev pub shownAt : ℕ → List ℕ → List ℕ → Seen
-shownAt limit edac bytes = let o = setUpOf 0x41 limit (lentWith edac) in seenOf (o .unit) (o .world) bytes
+shownAt limit edac bytes = let o = setUpOf 0x41 limit false (lentWith edac) in seenOf (o .unit) (o .world) bytes
 
 abbrev pub shownBy : List ℕ → List ℕ → Seen
 shownBy edac bytes = shownAt 1028 edac bytes
@@ -49,18 +53,20 @@ shownBy edac bytes = shownAt 1028 edac bytes
 abbrev pub zeros : List ℕ
 zeros = replicate 1536 0
 
--- The diagnostics where none moved, and where one run was dropped: channel 0x07 framing, 0x08 runt, 0x09 oversize.
+-- The diagnostics where none moved since set-up, which shows bootloader FRAM unlocked, and where one run was dropped: channel 0x07 framing, 0x08
+-- runt, 0x09 oversize.
 abbrev pub noCounts : List ℕ
-noCounts = replicate 31 0
+noCounts = set (replicate 31 0) 0x06 0x40
 
 abbrev pub onceAt : ℕ → List ℕ
 onceAt channel = set noCounts channel 1
 
--- The answers, the bytes sent, the diagnostics and EDAC memory afterwards; FRAM as it was.
+-- The answers, the bytes sent, the diagnostics and EDAC memory afterwards; both FRAMs as they were.
 abbrev pub ShowsAt : ℕ → List ℕ → List ℕ → List ℕ → List ℕ → List ℕ → List ℕ → Type 0
 ShowsAt limit before bytes answers sent diagnostics edac =
     let s = shownAt limit before bytes in
-    (s .answers ≡ answers) × (s .sent ≡ sent) × (s .left .diagnostics ≡ diagnostics) × (s .left .edac ≡ edac) × (s .left .fram ≡ replicate 256 0)
+    (s .answers ≡ answers) × (s .sent ≡ sent) × (s .left .diagnostics ≡ diagnostics) × (s .left .edac ≡ edac) × (s .left .frams .bootloader .fram ≡ replicate 256 0)
+    × (s .left .frams .user .fram ≡ replicate 256 0)
 
 abbrev pub Shows : List ℕ → List ℕ → List ℕ → List ℕ → List ℕ → List ℕ → Type 0
 Shows before bytes answers sent diagnostics edac = ShowsAt 1028 before bytes answers sent diagnostics edac
@@ -99,9 +105,9 @@ pub record WorkedExamples : Type 0 where
       × (unpackOf (0xDB ∷ 0xDD ∷ []) ≡ record { bytes = 0xDB ∷ []; fault = false })
       × (unpackOf (0xDB ∷ 0x00 ∷ []) ≡ record { bytes = []; fault = true })
       × Shows zeros (0xC0 ∷ 0xDB ∷ 0xDC ∷ 0xC0 ∷ []) (0 ∷ 0 ∷ 0 ∷ 6 ∷ []) [] (onceAt 0x08) zeros
-      × (take 1 (shownBy zeros (0xC0 ∷ 0xDB ∷ 0xDC ∷ 0xC0 ∷ []) .left .message) ≡ 0xC0 ∷ [])
+      × (take 1 (shownBy zeros (0xC0 ∷ 0xDB ∷ 0xDC ∷ 0xC0 ∷ []) .left .buffers .message) ≡ 0xC0 ∷ [])
       × Shows zeros (0xC0 ∷ 0xDB ∷ 0xDD ∷ 0xC0 ∷ []) (0 ∷ 0 ∷ 0 ∷ 6 ∷ []) [] (onceAt 0x08) zeros
-      × (take 1 (shownBy zeros (0xC0 ∷ 0xDB ∷ 0xDD ∷ 0xC0 ∷ []) .left .message) ≡ 0xDB ∷ [])
+      × (take 1 (shownBy zeros (0xC0 ∷ 0xDB ∷ 0xDD ∷ 0xC0 ∷ []) .left .buffers .message) ≡ 0xDB ∷ [])
       × Shows zeros (0xC0 ∷ 0xDB ∷ 0x00 ∷ 0xC0 ∷ []) (0 ∷ 0 ∷ 0 ∷ 5 ∷ []) [] (onceAt 0x07) zeros
   pub P8 : joinOf (record { sum = 0x00FF; len = 1 }) (record { sum = 0x00FF; len = 1 }) ≡ withPart (record { sum = 0x0000; len = 2 })
   -- And DIAGNOSTIC 08 then shows the runt.
@@ -140,9 +146,25 @@ pub record WorkedExamples : Type 0 where
       noCounts (stored withSpeed 0x052 (0xAA ∷ 0xBB ∷ []))
   -- 02, T-06: a set-up at 259 is refused, and hands back a record of zeros. At a limit of 260 a run of 266 bytes is oversize, and a PEEK of 257 bytes is
   -- refused, which at 1,028 is an access to memory not fitted.
-  pub T06 : (setUpOf 0x41 259 (lentWith zeros)
-      ≡ outcome (record { address = 0; limit = 0; mode = Bootloader; «fram_len» = 0; receiver = record { place = Fresh; count = 0 } }) BadLimit (lentWith zeros))
+  pub T06 : (setUpOf 0x41 259 true (lentWith zeros)
+      ≡ outcome
+      (record { address = 0; limit = 0; mode = Bootloader; locked = false; «bootloader_len» = 0; «fram_len» = 0; receiver = record { place = Fresh; count = 0 } })
+      BadLimit (lentWith zeros))
       × ShowsAt 260 zeros (0xC0 ∷ (replicate 266 0x55 ++ (0xC0 ∷ []))) (replicate 267 0 ++ (7 ∷ [])) [] (onceAt 0x09) zeros
       × ShowsAt 260 zeros (0xC0 ∷ 0x41 ∷ 0x11 ∷ 0x82 ∷ 0x00 ∷ 0x00 ∷ 0x04 ∷ 0x20 ∷ 0x01 ∷ 0x01 ∷ 0x61 ∷ 0xF7 ∷ 0xC0 ∷ []) (replicate 12 0 ++ (3 ∷ []))
       (0xC0 ∷ 0x11 ∷ 0x41 ∷ 0x82 ∷ 0x00 ∷ 0x00 ∷ 0x04 ∷ 0x20 ∷ 0x01 ∷ 0x01 ∷ 0x1F ∷ 0xD0 ∷ 0xC0 ∷ []) noCounts zeros
       × Shows zeros (0xC0 ∷ 0x41 ∷ 0x11 ∷ 0x82 ∷ 0x00 ∷ 0x00 ∷ 0x04 ∷ 0x20 ∷ 0x01 ∷ 0x01 ∷ 0x61 ∷ 0xF7 ∷ 0xC0 ∷ []) (replicate 12 0 ++ (10 ∷ [])) [] noCounts zeros
+  -- 02, T-07: POKE 20000000 AA is stored in bootloader FRAM. INIT DEADBEEF is echoed, and diagnostic 0x06 shows CC from then on: POKE 20000000 BB is
+  -- echoed, and nothing is stored. A PEEK of the last address of bootloader FRAM and the first of user FRAM is refused, though neither is fitted.
+  pub T07 : let s = shownBy zeros
+      ((0xC0 ∷ 0x41 ∷ 0x11 ∷ 0x83 ∷ 0x00 ∷ 0x00 ∷ 0x00 ∷ 0x20 ∷ 0xAA ∷ 0x62 ∷ 0x92 ∷ 0xC0 ∷ [])
+      ++ (0xC0 ∷ 0x41 ∷ 0x11 ∷ 0x81 ∷ 0xEF ∷ 0xBE ∷ 0xAD ∷ 0xDE ∷ 0x88 ∷ 0x50 ∷ 0xC0 ∷ [])
+      ++ (0xC0 ∷ 0x41 ∷ 0x11 ∷ 0x83 ∷ 0x00 ∷ 0x00 ∷ 0x00 ∷ 0x20 ∷ 0xBB ∷ 0x6A ∷ 0x93 ∷ 0xC0 ∷ [])
+      ++ (0xC0 ∷ 0x41 ∷ 0x11 ∷ 0x82 ∷ 0xFF ∷ 0xFF ∷ 0x03 ∷ 0x20 ∷ 0x02 ∷ 0xE7 ∷ 0x60 ∷ 0xC0 ∷ [])) in
+      (s .answers ≡ replicate 11 0 ++ (1 ∷ replicate 10 0) ++ (1 ∷ replicate 11 0) ++ (1 ∷ replicate 11 0) ++ (3 ∷ []))
+      × (s .sent
+      ≡ (0xC0 ∷ 0x11 ∷ 0x41 ∷ 0xA3 ∷ 0x00 ∷ 0x00 ∷ 0x00 ∷ 0x20 ∷ 0xAA ∷ 0x44 ∷ 0x5B ∷ 0xC0 ∷ [])
+      ++ (0xC0 ∷ 0x11 ∷ 0x41 ∷ 0xA1 ∷ 0xEF ∷ 0xBE ∷ 0xAD ∷ 0xDE ∷ 0xB7 ∷ 0x02 ∷ 0xC0 ∷ [])
+      ++ (0xC0 ∷ 0x11 ∷ 0x41 ∷ 0xA3 ∷ 0x00 ∷ 0x00 ∷ 0x00 ∷ 0x20 ∷ 0xBB ∷ 0x4C ∷ 0x5A ∷ 0xC0 ∷ [])
+      ++ (0xC0 ∷ 0x11 ∷ 0x41 ∷ 0x82 ∷ 0xFF ∷ 0xFF ∷ 0x03 ∷ 0x20 ∷ 0x02 ∷ 0xA1 ∷ 0x2C ∷ 0xC0 ∷ []))
+      × (s .left .diagnostics ≡ set noCounts 0x06 0xCC) × (s .left .frams .bootloader .fram ≡ 0xAA ∷ replicate 255 0) × (s .left .frams .user .fram ≡ replicate 256 0)

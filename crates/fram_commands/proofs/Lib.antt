@@ -1,4 +1,6 @@
+pub mod Borders
 pub mod Examples
 pub mod Room
 pub mod Ways
+pub mod Choosing
 pub mod Storing

@@ -12,6 +12,7 @@ use Rattle.blocks.specs.Fram.{Kept, placeOf, storeOf, rangeSum}
 use Rattle.blocks.specs.declared.Found.the-variants.{At, Outside}
 use Rattle.carrying.specs.Ending.{done, refused, unfitted}
 use Rattle.field.specs.Fields.{word16At, word32At, bytes16, shortCount}
+use Rattle.fram_commands.specs.Windows.{overBorder}
 use Rattle.fram_commands.specs.Peek.{peekRangeOf, peekOf}
 use Rattle.fram_commands.specs.Poke.{pokeOf}
 use Rattle.fram_commands.specs.Crc.{rangeSize, crcOf}
@@ -49,14 +50,19 @@ unfolding peekRangeOf
 peek-without-room room first fram field count some lacks = simp (ne-eqb count 0 some, lt-ltb room (4 + count) lacks)
 
 module _ (room first : ℕ) (fram field : List ℕ) (count : ℕ) (some : count ≡ 0 → ⊥) (fits : 4 + count ≤ room) where
-  pub peek-outside : placeOf first (length fram) (word32At field 0) count ≡ Outside → peekRangeOf room first fram field count ≡ unfitted
+  pub peek-over-the-border : overBorder (word32At field 0) count ≡ true → peekRangeOf room first fram field count ≡ refused
   unfolding peekRangeOf
-  peek-outside there = simp (ne-eqb count 0 some, le-ltb room (4 + count) fits, there)
+  peek-over-the-border over = simp (ne-eqb count 0 some, le-ltb room (4 + count) fits, over)
 
-  pub peek-inside : (at : ℕ) → placeOf first (length fram) (word32At field 0) count ≡ At at
-      → peekRangeOf room first fram field count ≡ done (take 4 field ++ stretch at count fram) tt
-  unfolding peekRangeOf
-  peek-inside at there = simp (ne-eqb count 0 some, le-ltb room (4 + count) fits, there)
+  module _ (border : overBorder (word32At field 0) count ≡ false) where
+    pub peek-outside : placeOf first (length fram) (word32At field 0) count ≡ Outside → peekRangeOf room first fram field count ≡ unfitted
+    unfolding peekRangeOf
+    peek-outside there = simp (ne-eqb count 0 some, le-ltb room (4 + count) fits, border, there)
+
+    pub peek-inside : (at : ℕ) → placeOf first (length fram) (word32At field 0) count ≡ At at
+        → peekRangeOf room first fram field count ≡ done (take 4 field ++ stretch at count fram) tt
+    unfolding peekRangeOf
+    peek-inside at there = simp (ne-eqb count 0 some, le-ltb room (4 + count) fits, border, there)
 
 pub peek-short : (room first : ℕ) (fram field : List ℕ) (count : ℕ) → length field ≡ 5 → count ≡ shortCount (getD field 4 0)
     → peekOf room first fram field ≡ peekRangeOf room first fram field count
@@ -74,23 +80,29 @@ peek-neither room first fram field other another = simp (ne-eqb (length field) 5
 
 -- ---- POKE
 
-pub poke-too-short : (room first : ℕ) (memory : Kept) (field : List ℕ) → length field < 5 → pokeOf room first memory field ≡ refused
+pub poke-too-short : (room first : ℕ) (locked : Bool) (memory : Kept) (field : List ℕ) → length field < 5 → pokeOf room first locked memory field ≡ refused
 unfolding pokeOf
-poke-too-short room first memory field short = simp (lt-ltb (length field) 5 short)
+poke-too-short room first locked memory field short = simp (lt-ltb (length field) 5 short)
 
-pub poke-without-room : (room first : ℕ) (memory : Kept) (field : List ℕ) → 5 ≤ length field → room < length field → pokeOf room first memory field ≡ refused
+pub poke-without-room : (room first : ℕ) (locked : Bool) (memory : Kept) (field : List ℕ) → 5 ≤ length field → room < length field
+    → pokeOf room first locked memory field ≡ refused
 unfolding pokeOf
-poke-without-room room first memory field some lacks = simp (le-ltb (length field) 5 some, lt-ltb room (length field) lacks)
+poke-without-room room first locked memory field some lacks = simp (le-ltb (length field) 5 some, lt-ltb room (length field) lacks)
 
-module _ (room first : ℕ) (memory : Kept) (field : List ℕ) (some : 5 ≤ length field) (fits : length field ≤ room) where
-  pub poke-outside : placeOf first (length (memory .fram)) (word32At field 0) (length field - 4) ≡ Outside → pokeOf room first memory field ≡ unfitted
+module _ (room first : ℕ) (locked : Bool) (memory : Kept) (field : List ℕ) (some : 5 ≤ length field) (fits : length field ≤ room) where
+  pub poke-over-the-border : overBorder (word32At field 0) (length field - 4) ≡ true → pokeOf room first locked memory field ≡ refused
   unfolding pokeOf
-  poke-outside there = simp (le-ltb (length field) 5 some, le-ltb room (length field) fits, there)
+  poke-over-the-border over = simp (le-ltb (length field) 5 some, le-ltb room (length field) fits, over)
 
-  pub poke-inside : (at : ℕ) → placeOf first (length (memory .fram)) (word32At field 0) (length field - 4) ≡ At at
-      → pokeOf room first memory field ≡ done field (storeOf memory at (drop 4 field))
-  unfolding pokeOf
-  poke-inside at there = simp (le-ltb (length field) 5 some, le-ltb room (length field) fits, there)
+  module _ (border : overBorder (word32At field 0) (length field - 4) ≡ false) where
+    pub poke-outside : placeOf first (length (memory .fram)) (word32At field 0) (length field - 4) ≡ Outside → pokeOf room first locked memory field ≡ unfitted
+    unfolding pokeOf
+    poke-outside there = simp (le-ltb (length field) 5 some, le-ltb room (length field) fits, border, there)
+
+    pub poke-inside : (at : ℕ) → placeOf first (length (memory .fram)) (word32At field 0) (length field - 4) ≡ At at
+        → pokeOf room first locked memory field ≡ done field (cond locked memory (storeOf memory at (drop 4 field)))
+    unfolding pokeOf
+    poke-inside at there = simp (le-ltb (length field) 5 some, le-ltb room (length field) fits, border, there)
 
 -- ---- CRC
 
@@ -103,11 +115,16 @@ unfolding crcOf
 crc-backwards first memory field eight before = simp (eq-eqb (length field) 8 eight, lt-ltb (word32At field 4) (word32At field 0) before)
 
 module _ (first : ℕ) (memory : Kept) (field : List ℕ) (eight : length field ≡ 8) (forward : word32At field 0 ≤ word32At field 4) where
-  pub crc-outside : placeOf first (length (memory .fram)) (word32At field 0) (rangeSize (word32At field 0) (word32At field 4)) ≡ Outside → crcOf first memory field ≡ unfitted
+  pub crc-over-the-border : overBorder (word32At field 0) (rangeSize (word32At field 0) (word32At field 4)) ≡ true → crcOf first memory field ≡ refused
   unfolding crcOf
-  crc-outside there = simp (eq-eqb (length field) 8 eight, le-ltb (word32At field 4) (word32At field 0) forward, there)
+  crc-over-the-border over = simp (eq-eqb (length field) 8 eight, le-ltb (word32At field 4) (word32At field 0) forward, over)
 
-  pub crc-inside : (at : ℕ) → placeOf first (length (memory .fram)) (word32At field 0) (rangeSize (word32At field 0) (word32At field 4)) ≡ At at
-      → crcOf first memory field ≡ done (field ++ bytes16 (rangeSum memory at (at + rangeSize (word32At field 0) (word32At field 4)))) tt
-  unfolding crcOf
-  crc-inside at there = simp (eq-eqb (length field) 8 eight, le-ltb (word32At field 4) (word32At field 0) forward, there)
+  module _ (border : overBorder (word32At field 0) (rangeSize (word32At field 0) (word32At field 4)) ≡ false) where
+    pub crc-outside : placeOf first (length (memory .fram)) (word32At field 0) (rangeSize (word32At field 0) (word32At field 4)) ≡ Outside → crcOf first memory field ≡ unfitted
+    unfolding crcOf
+    crc-outside there = simp (eq-eqb (length field) 8 eight, le-ltb (word32At field 4) (word32At field 0) forward, border, there)
+
+    pub crc-inside : (at : ℕ) → placeOf first (length (memory .fram)) (word32At field 0) (rangeSize (word32At field 0) (word32At field 4)) ≡ At at
+        → crcOf first memory field ≡ done (field ++ bytes16 (rangeSum memory at (at + rangeSize (word32At field 0) (word32At field 4)))) tt
+    unfolding crcOf
+    crc-inside at there = simp (eq-eqb (length field) 8 eight, le-ltb (word32At field 4) (word32At field 0) forward, border, there)

@@ -1,12 +1,13 @@
--- CRC 0x06 (01, "Commands"; ICD 11.10). Assumes nothing.
+-- CRC 0x06 (01, "Commands"; 02, T-07; ICD 11.10) on one FRAM. Assumes nothing.
 use Prim.Native.Nat.{ℕ, _+_, _-_}
 use mathlib.Core.Bool.{cond}
 use mathlib.Core.List.{List, _++_}
 use lib.Dec.{eqb, ltb}
 use lib.ListN.{length}
-use Rattle.blocks.specs.Fram.{Kept, placeOf, rangeSum}
-use Rattle.carrying.specs.Ending.{Ending, done, refused, atPlace}
+use Rattle.blocks.specs.Fram.{Kept, rangeSum}
+use Rattle.carrying.specs.Ending.{Ending, done, refused}
 use Rattle.field.specs.Fields.{word32At, bytes16}
+use Rattle.fram_commands.specs.Windows.{inFram}
 
 -- How many bytes from the first address to the last, which is included.
 abbrev pub rangeSize : ℕ → ℕ → ℕ
@@ -17,6 +18,6 @@ unfoldable pub crcOf : ℕ → Kept → List ℕ → Ending (Unit {0})
 crcOf first memory field =
     cond (eqb (length field) 8)
     (cond (ltb (word32At field 4) (word32At field 0)) refused
-    (atPlace (placeOf first (length (memory .fram)) (word32At field 0) (rangeSize (word32At field 0) (word32At field 4)))
+    (inFram first (length (memory .fram)) (word32At field 0) (rangeSize (word32At field 0) (word32At field 4))
     (λ at. done (field ++ bytes16 (rangeSum memory at (at + rangeSize (word32At field 0) (word32At field 4)))) tt)))
     refused

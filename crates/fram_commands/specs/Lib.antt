@@ -1,3 +1,5 @@
+pub mod Windows
 pub mod Peek
 pub mod Poke
 pub mod Crc
+pub mod ByAddress

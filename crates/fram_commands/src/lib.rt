@@ -1,4 +1,7 @@
-// The commands on user FRAM: one module for each, which judges a data field, carries it out on memory and writes its reply's data.
+// The commands on FRAM: one module for each, which judges a data field, carries it out on one memory and writes its reply's data; where
+// the two FRAMs lie; and each command on the one of them that its address names.
+pub mod by_address;
 pub mod peek;
 pub mod poke;
 pub mod range_crc;
+pub mod windows;

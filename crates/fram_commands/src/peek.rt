@@ -1,4 +1,5 @@
 // PEEK 0x02.
+use crate::windows::is_over_border;
 use blocks::Found;
 use carrying::Ended;
 use field::fields::short_count;
@@ -30,7 +31,11 @@ fn peek_range(
     if room < 4 + count {
         return Ended::Refused;
     }
-    let found = blocks::place(first, fram.len(), word32(field, 0), count);
+    let address = word32(field, 0);
+    if is_over_border(address, count) {
+        return Ended::Refused;
+    }
+    let found = blocks::place(first, fram.len(), address, count);
     match found {
         Found::Outside => Ended::Unfitted,
         Found::At(at) => {

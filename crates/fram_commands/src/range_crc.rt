@@ -1,4 +1,5 @@
 // CRC 0x06.
+use crate::windows::is_over_border;
 use blocks::Found;
 use carrying::Ended;
 use field::fields::word32;
@@ -25,6 +26,9 @@ pub fn range_crc(first: u32, fram: &[u8], sums: &[u16], field: &[u8], reply: &mu
         return Ended::Refused;
     }
     let count = ((last - from) as usize) + 1;
+    if is_over_border(from, count) {
+        return Ended::Refused;
+    }
     let found = blocks::place(first, fram.len(), from, count);
     match found {
         Found::Outside => Ended::Unfitted,

@@ -1,5 +1,6 @@
--- 02, T-06 at its edges, each by computation from the definitions. Assumes nothing.
+-- 02, T-06 and T-07 at their edges, each by computation from the definitions. Assumes nothing.
 use mathlib.Core.Path.{_≡_, refl}
+use mathlib.Core.Bool.{false}
 use mathlib.Core.List.{List}
 use Prim.Native.Nat.{ℕ}
 use lib.ListN.{set, replicate}
@@ -10,7 +11,7 @@ use Rattle.line.specs.declared.receiver.Receiver.{Receiver}
 use Rattle.line.specs.Packing.{messageSize}
 use Rattle.line.specs.Receiver.{opened, receiveOf, insideOf, afterEscapeOf, closedOf, storedOf, countedOf}
 use Rattle.carrying.specs.declared.Mode.the-variants.{Bootloader}
-use Rattle.answer.specs.declared.Answer.the-variants.{Taken, Framing, Runt, Oversize, BadCrc, BadBuffers, BadCount, BadLimit}
+use Rattle.answer.specs.declared.Answer.the-variants.{Taken, Framing, Runt, Oversize, BadCrc, BadFram, BadSums, BadBuffers, BadCount, BadLimit}
 use Rattle.judging.specs.declared.Unit.{Unit}
 use Rattle.judging.specs.declared.Lengths.{Lengths}
 use Rattle.judging.specs.declared.Verdict.{Verdict}
@@ -19,15 +20,35 @@ use Rattle.judging.specs.declared.fitting.Fit.the-variants.{Fits, Unfit}
 use Rattle.judging.specs.Fitting.{lengthsFit, setUpFit, stepFit}
 use Rattle.judging.specs.Judging.{Judging, judging, dropped, largestMessage, runOf, verdictOf, receivedOf}
 
--- what is lent, with a reply buffer of this length
+-- what is lent, with FRAMs and sums of these lengths and a reply buffer of this one
+abbrev lentWith : ℕ → ℕ → ℕ → ℕ → ℕ → Lengths
+lentWith bootloader bootloaders fram sums reply = record {
+  edac = 1536;
+  bootloader = bootloader;
+  «bootloader_sums» = bootloaders;
+  fram = fram;
+  sums = sums;
+  diagnostics = 31;
+  message = 1033;
+  reply = reply;
+}
+
 abbrev lent : ℕ → Lengths
-lent reply = record { edac = 1536; fram = 256; sums = 1; diagnostics = 31; message = 1033; reply = reply }
+lent reply = lentWith 512 2 256 1 reply
 
 abbrev at : Place → ℕ → Receiver
 at place count = record { place = place; count = count }
 
 abbrev unit : ℕ → Receiver → Unit
-unit limit receiver = record { address = 0x41; limit = limit; mode = Bootloader; «fram_len» = 256; receiver = receiver }
+unit limit receiver = record {
+  address = 0x41;
+  limit = limit;
+  mode = Bootloader;
+  locked = false;
+  «bootloader_len» = 512;
+  «fram_len» = 256;
+  receiver = receiver;
+}
 
 -- at 1,028 the largest message is that of 01
 pub the-largest : (largestMessage 1028 ≡ messageSize) × (largestMessage 260 ≡ 265)
@@ -48,6 +69,19 @@ pub calls : (stepFit (unit 259 opened) (lent 2068) ≡ Unfit BadLimit) × (stepF
     × (stepFit (unit 259 (at Run 1035)) (lent 2067) ≡ Unfit BadBuffers)
 unfolding stepFit lengthsFit
 calls = (refl, refl, refl, refl, refl, refl, refl, refl, refl, refl)
+
+-- 02, T-07: 22 is given for either FRAM, before 23 for the sums of either; after set-up for another length than the one that was set up, too.
+pub set-ups-of-two : (setUpFit 0x41 260 (lentWith 255 1 256 1 2068) ≡ Unfit BadFram) × (setUpFit 0x41 260 (lentWith 256 1 262400 1025 2068) ≡ Unfit BadFram)
+    × (setUpFit 0x41 260 (lentWith 256 2 0 0 2068) ≡ Unfit BadFram) × (setUpFit 0x41 260 (lentWith 256 2 256 1 2068) ≡ Unfit BadSums)
+    × (setUpFit 0x41 260 (lentWith 256 1 256 0 2067) ≡ Unfit BadSums) × (setUpFit 0x41 260 (lentWith 262144 1024 256 1 2068) ≡ Fits)
+unfolding setUpFit lengthsFit
+set-ups-of-two = (refl, refl, refl, refl, refl, refl)
+
+pub calls-of-two : (stepFit (unit 260 opened) (lentWith 256 1 256 1 2068) ≡ Unfit BadFram) × (stepFit (unit 260 opened) (lentWith 512 2 512 2 2068) ≡ Unfit BadFram)
+    × (stepFit (unit 260 opened) (lentWith 512 1 512 2 2068) ≡ Unfit BadFram) × (stepFit (unit 260 opened) (lentWith 512 1 256 1 2068) ≡ Unfit BadSums)
+    × (stepFit (unit 260 opened) (lentWith 512 2 256 2 2068) ≡ Unfit BadSums) × (stepFit (unit 260 opened) (lentWith 512 2 256 1 2068) ≡ Fits)
+unfolding stepFit lengthsFit
+calls-of-two = (refl, refl, refl, refl, refl, refl)
 
 -- a message buffer of zeros, and one byte received at a limit of 260
 abbrev zeros : List ℕ

@@ -1,6 +1,6 @@
 -- The refusals: one law for each way through the tests, and what is known where none is due. Assumes nothing.
 use mathlib.Core.Path.{_≡_, refl, sym, _∙_}
-use mathlib.Core.Bool.{Bool, true, false}
+use mathlib.Core.Bool.{Bool, true, false, _&&_}
 use Prim.Native.Nat.{ℕ, _/_, _%_, _≤_, _<_}
 use native.Mathlib.Omega.{arith}
 use borrow.Author.Tests.{lt-ltb, le-ltb, le-leb, lt-leb, eq-eqb, ne-eqb, eqb-true, eqb-false}
@@ -11,7 +11,7 @@ use Rattle.judging.specs.declared.Lengths.{Lengths}
 use Rattle.answer.specs.declared.Answer.the-variants.{BadAddress, BadEdac, BadFram, BadSums, BadDiagnostics, BadBuffers}
 use Rattle.judging.specs.declared.fitting.Fit.{Fit}
 use Rattle.judging.specs.declared.fitting.Fit.the-variants.{Unfit}
-use Rattle.judging.specs.Fitting.{forbidden, framFits, framAsSetUp, lengthsFit}
+use Rattle.judging.specs.Fitting.{forbidden, framFits, sumsFit, framAsSetUp, lengthsFit}
 use Rattle.memory.specs.Counts.{channels}
 use Rattle.line.specs.Packing.{messageSize, replySize}
 
@@ -55,6 +55,13 @@ not-as-set-up size setUp e = simp e
 pub as-set-up : (size setUp : ℕ) → framFits size ≡ true → eqb size setUp ≡ framAsSetUp size setUp
 as-set-up size setUp e = simp e
 
+-- what is asked of bootloader FRAM and of user FRAM: of both, or not of the first
+pub asked-of-both : (a b r : Bool) → a ≡ true → r ≡ b → r ≡ (a && b)
+asked-of-both a b r e same = rw e same
+
+pub not-of-the-first : (a b : Bool) → a ≡ false → false ≡ (a && b)
+not-of-the-first a b e = rw e
+
 -- ---- 20 to 25, lowest number first
 
 module _ (address : ℕ) (fits : Bool) (l : Lengths) (next : Fit) where
@@ -73,11 +80,11 @@ module _ (address : ℕ) (fits : Bool) (l : Lengths) (next : Fit) where
       refused-22 f = simp (a, eq-eqb (l .edac) edacSize e, f)
 
       module _ (f : fits ≡ true) where
-        pub refused-23 : eqb (blockStart (l .sums)) (l .fram) ≡ false → Unfit BadSums ≡ lengthsFit address fits l next
+        pub refused-23 : sumsFit l ≡ false → Unfit BadSums ≡ lengthsFit address fits l next
         unfolding lengthsFit
         refused-23 s = simp (a, eq-eqb (l .edac) edacSize e, f, s)
 
-        module _ (s : eqb (blockStart (l .sums)) (l .fram) ≡ true) where
+        module _ (s : sumsFit l ≡ true) where
           pub refused-24 : (l .diagnostics ≡ channels → ⊥) → Unfit BadDiagnostics ≡ lengthsFit address fits l next
           unfolding lengthsFit
           refused-24 d = simp (a, eq-eqb (l .edac) edacSize e, f, s, ne-eqb (l .diagnostics) channels d)

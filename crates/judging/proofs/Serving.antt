@@ -1,6 +1,6 @@
 -- What is known of a call that is not refused, and of each verdict. Assumes nothing.
 use mathlib.Core.Path.{_≡_, refl, sym}
-use mathlib.Core.Bool.{Bool, true, false, cond, _||_}
+use mathlib.Core.Bool.{Bool, true, false, cond, _&&_, _||_, false≢true}
 use mathlib.Core.List.{List}
 use Prim.Native.Nat.{ℕ, _≤_}
 use native.Mathlib.Omega.{arith}
@@ -24,7 +24,7 @@ use Rattle.judging.specs.declared.Verdict.{Verdict}
 use Rattle.judging.specs.declared.Verdict.the-variants.{Quiet, Dropped, Command}
 use Rattle.judging.specs.declared.fitting.Fit.{Fit}
 use Rattle.judging.specs.declared.fitting.Fit.the-variants.{Fits, Unfit}
-use Rattle.judging.specs.Fitting.{forbidden, framFits, framAsSetUp, largestCount, limitFit, countFit, lengthsFit, setUpFit, stepFit}
+use Rattle.judging.specs.Fitting.{forbidden, framFits, sumsFit, framsAsSetUp, largestCount, limitFit, countFit, lengthsFit, setUpFit, stepFit}
 use Rattle.judging.specs.Judging.{largestMessage, soundOf, runOf, verdictOf, receivedOf, unless, judgeOf}
 
 -- the tests that a call passed, as equations
@@ -32,7 +32,7 @@ pub record Passed (address : ℕ) (fits : Bool) (l : Lengths) (next : Fit) : Typ
   pub address-allowed : forbidden address ≡ false
   pub edac-tested : eqb (l .edac) edacSize ≡ true
   pub fram-tested : fits ≡ true
-  pub sums-tested : eqb (blockStart (l .sums)) (l .fram) ≡ true
+  pub sums-tested : sumsFit l ≡ true
   pub diagnostics-tested : eqb (l .diagnostics) channels ≡ true
   pub message-tested : ltb (l .message) messageSize ≡ false
   pub reply-tested : ltb (l .reply) replySize ≡ false
@@ -44,10 +44,10 @@ unfit answer e = let z : _≡_ {A = ℕ} 0 1 = cc in absurd (omega arith)
 pub all-passed : (address : ℕ) (fits : Bool) (l : Lengths) (next : Fit) → lengthsFit address fits l next ≡ Fits → Passed address fits l next
 unfolding lengthsFit
 all-passed address fits l next =
-    tested (forbidden address) (eqb (l .edac) edacSize) fits (eqb (blockStart (l .sums)) (l .fram)) (eqb (l .diagnostics) channels)
+    tested (forbidden address) (eqb (l .edac) edacSize) fits (sumsFit l) (eqb (l .diagnostics) channels)
     (ltb (l .message) messageSize) (ltb (l .reply) replySize) refl refl refl refl refl refl refl
   where
-    tested : (a e f s d m r : Bool) → forbidden address ≡ a → eqb (l .edac) edacSize ≡ e → fits ≡ f → eqb (blockStart (l .sums)) (l .fram) ≡ s
+    tested : (a e f s d m r : Bool) → forbidden address ≡ a → eqb (l .edac) edacSize ≡ e → fits ≡ f → sumsFit l ≡ s
         → eqb (l .diagnostics) channels ≡ d → ltb (l .message) messageSize ≡ m → ltb (l .reply) replySize ≡ r
         → cond a (Unfit BadAddress)
         (cond e (cond f (cond s (cond d (cond (m || r) (Unfit BadBuffers) next) (Unfit BadDiagnostics)) (Unfit BadSums)) (Unfit BadFram)) (Unfit BadEdac))
@@ -77,7 +77,7 @@ pub refused-all-the-same : (address : ℕ) (fits : Bool) (l : Lengths) (next : F
     → Unfit answer ≡ lengthsFit address fits l next
 unfolding lengthsFit
 refused-all-the-same address fits l next answer =
-    tested (forbidden address) (eqb (l .edac) edacSize) fits (eqb (blockStart (l .sums)) (l .fram)) (eqb (l .diagnostics) channels)
+    tested (forbidden address) (eqb (l .edac) edacSize) fits (sumsFit l) (eqb (l .diagnostics) channels)
     (ltb (l .message) messageSize || ltb (l .reply) replySize)
   where
     judged : Bool → Bool → Bool → Bool → Bool → Bool → Fit → Fit
@@ -102,16 +102,24 @@ and-then address fits l next h =
 -- What is lent has the lengths that a call needs: what is left to say of it when no refusal is due.
 pub record Fitted (l : Lengths) : Type 0 where
   pub edac-fits : l .edac ≡ edacSize
+  pub bootloader-sums-fit : l .bootloader ≡ blockStart (l .«bootloader_sums»)
   pub sums-fit : l .fram ≡ blockStart (l .sums)
   pub diagnostics-fit : l .diagnostics ≡ channels
   pub message-fits : messageSize ≤ l .message
   pub reply-fits : replySize ≤ l .reply
 
+-- what both of two tests say
+pub both : (a b : Bool) → (a && b) ≡ true → (a ≡ true) × (b ≡ true)
+both true b h = (refl, h)
+both false b h = let z : false ≡ true = h in absurd (false≢true z)
+
 fitted : (address : ℕ) (fits : Bool) (l : Lengths) (next : Fit) → Passed address fits l next → Fitted l
 fitted address fits l next p =
+    let sums = both (eqb (blockStart (l .«bootloader_sums»)) (l .bootloader)) (eqb (blockStart (l .sums)) (l .fram)) (p .sums-tested) in
     record {
       edac-fits = eqb-true (l .edac) edacSize (p .edac-tested);
-      sums-fit = sym (eqb-true (blockStart (l .sums)) (l .fram) (p .sums-tested));
+      bootloader-sums-fit = sym (eqb-true (blockStart (l .«bootloader_sums»)) (l .bootloader) (sums .0));
+      sums-fit = sym (eqb-true (blockStart (l .sums)) (l .fram) (sums .1));
       diagnostics-fit = eqb-true (l .diagnostics) channels (p .diagnostics-tested);
       message-fits = ltb-false (l .message) messageSize (p .message-tested);
       reply-fits = ltb-false (l .reply) replySize (p .reply-tested);
@@ -133,23 +141,23 @@ counted count next e = apart (leb count largestCount) e
     apart false f = unfit BadCount f
 
 module _ (address limit : ℕ) (l : Lengths) (e : setUpFit address limit l ≡ Fits) where
-  passed-set-up : Passed address (framFits (l .fram)) l (limitFit limit)
+  passed-set-up : Passed address (framFits (l .bootloader) && framFits (l .fram)) l (limitFit limit)
   unfolding setUpFit
-  passed-set-up = all-passed address (framFits (l .fram)) l (limitFit limit) e
+  passed-set-up = all-passed address (framFits (l .bootloader) && framFits (l .fram)) l (limitFit limit) e
 
   pub a-served-set-up-fits : Fitted l
-  a-served-set-up-fits = fitted address (framFits (l .fram)) l (limitFit limit) passed-set-up
+  a-served-set-up-fits = fitted address (framFits (l .bootloader) && framFits (l .fram)) l (limitFit limit) passed-set-up
 
   pub a-served-set-up-is-limited : isLimit limit ≡ true
   a-served-set-up-is-limited = limited limit (passed-set-up .next-tested)
 
 module _ (u : Unit) (l : Lengths) (e : stepFit u l ≡ Fits) where
-  passed-step : Passed (u .address) (framAsSetUp (l .fram) (u .«fram_len»)) l (countFit (u .receiver .count) (limitFit (u .limit)))
+  passed-step : Passed (u .address) (framsAsSetUp u l) l (countFit (u .receiver .count) (limitFit (u .limit)))
   unfolding stepFit
-  passed-step = all-passed (u .address) (framAsSetUp (l .fram) (u .«fram_len»)) l (countFit (u .receiver .count) (limitFit (u .limit))) e
+  passed-step = all-passed (u .address) (framsAsSetUp u l) l (countFit (u .receiver .count) (limitFit (u .limit))) e
 
   pub a-served-step-fits : Fitted l
-  a-served-step-fits = fitted (u .address) (framAsSetUp (l .fram) (u .«fram_len»)) l (countFit (u .receiver .count) (limitFit (u .limit))) passed-step
+  a-served-step-fits = fitted (u .address) (framsAsSetUp u l) l (countFit (u .receiver .count) (limitFit (u .limit))) passed-step
 
   pub a-served-step-is-limited : isLimit (u .limit) ≡ true
   a-served-step-is-limited = limited (u .limit) (counted (u .receiver .count) (limitFit (u .limit)) (passed-step .next-tested))

@@ -1,4 +1,4 @@
--- 01, "One byte in, one answer out": 20 to 26, lowest number first; after them 29 (02, T-06). Assumes nothing.
+-- 01, "One byte in, one answer out": 20 to 26, lowest number first; after them 29 (02, T-06). 22 and 23 cover both FRAMs (02, T-07). Assumes nothing.
 use Prim.Native.Nat.{ℕ, _%_}
 use mathlib.Core.Bool.{Bool, cond, _&&_, _||_}
 use lib.Dec.{eqb, leb, ltb}
@@ -17,7 +17,7 @@ use Rattle.judging.specs.declared.fitting.Fit.the-variants.{Fits, Unfit}
 abbrev pub forbidden : ℕ → Bool
 forbidden address = eqb address 0x00 || eqb address 0xC0 || eqb address 0xDB
 
--- The least and the most bytes of FRAM.
+-- The least and the most bytes of an FRAM.
 abbrev pub leastFram : ℕ
 leastFram = 256
 
@@ -36,13 +36,17 @@ largestCount = 1034
 abbrev pub buffersFit : Lengths → Fit → Fit
 buffersFit l next = cond (ltb (l .message) messageSize || ltb (l .reply) replySize) (Unfit BadBuffers) next
 
--- 20 to 25. `fits` is what is asked of FRAM's length, and `next` what comes after.
+-- One sum for each block, of both FRAMs.
+abbrev pub sumsFit : Lengths → Bool
+sumsFit l = eqb (blockStart (l .«bootloader_sums»)) (l .bootloader) && eqb (blockStart (l .sums)) (l .fram)
+
+-- 20 to 25. `fits` is what is asked of the lengths of both FRAMs, and `next` what comes after.
 unfoldable pub lengthsFit : ℕ → Bool → Lengths → Fit → Fit
 lengthsFit address fits l next =
     cond (forbidden address) (Unfit BadAddress)
     (cond (eqb (l .edac) edacSize)
     (cond fits
-    (cond (eqb (blockStart (l .sums)) (l .fram))
+    (cond (sumsFit l)
     (cond (eqb (l .diagnostics) channels) (buffersFit l next) (Unfit BadDiagnostics))
     (Unfit BadSums))
     (Unfit BadFram))
@@ -54,9 +58,9 @@ limitFit limit = cond (isLimit limit) Fits (Unfit BadLimit)
 
 -- Set-up has no 26.
 unfoldable pub setUpFit : ℕ → ℕ → Lengths → Fit
-setUpFit address limit l = lengthsFit address (framFits (l .fram)) l (limitFit limit)
+setUpFit address limit l = lengthsFit address (framFits (l .bootloader) && framFits (l .fram)) l (limitFit limit)
 
--- After set-up, an FRAM length other than the one set up is 22.
+-- After set-up, an FRAM length other than the one set up is 22, for either.
 abbrev pub framAsSetUp : ℕ → ℕ → Bool
 framAsSetUp size setUp = framFits size && eqb size setUp
 
@@ -64,5 +68,8 @@ framAsSetUp size setUp = framFits size && eqb size setUp
 abbrev pub countFit : ℕ → Fit → Fit
 countFit count next = cond (leb count largestCount) next (Unfit BadCount)
 
+abbrev pub framsAsSetUp : Unit → Lengths → Bool
+framsAsSetUp u l = framAsSetUp (l .bootloader) (u .«bootloader_len») && framAsSetUp (l .fram) (u .«fram_len»)
+
 unfoldable pub stepFit : Unit → Lengths → Fit
-stepFit u l = lengthsFit (u .address) (framAsSetUp (l .fram) (u .«fram_len»)) l (countFit (u .receiver .count) (limitFit (u .limit)))
+stepFit u l = lengthsFit (u .address) (framsAsSetUp u l) l (countFit (u .receiver .count) (limitFit (u .limit)))

@@ -68,8 +68,15 @@ verdictOf largest address heard.Framing message = dropped Framing 0
 verdictOf largest address (heard.Message count) message = runOf largest address count message
 
 abbrev pub withReceiver : Unit → Receiver → Unit
-withReceiver u receiver =
-    record { address = u .address; limit = u .limit; mode = u .mode; «fram_len» = u .«fram_len»; receiver = receiver }
+withReceiver u receiver = record {
+  address = u .address;
+  limit = u .limit;
+  mode = u .mode;
+  locked = u .locked;
+  «bootloader_len» = u .«bootloader_len»;
+  «fram_len» = u .«fram_len»;
+  receiver = receiver;
+}
 
 -- One byte received. The limit says what is stored, counted and too long.
 unfoldable pub receivedOf : Unit → ℕ → List ℕ → Judging

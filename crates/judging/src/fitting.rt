@@ -11,9 +11,10 @@ use line::packing::REPLY_SIZE;
 use memory::counts::CHANNELS;
 use memory::edac::EDAC_SIZE;
 ghost use mathlib.Core.Path.{_≡_};
+ghost use mathlib.Core.Bool.{_&&_};
 ghost use lib.Dec.{eqb};
 ghost use Rattle.blocks.specs.Fram.{blockStart};
-ghost use Rattle.judging.specs.Fitting.{forbidden, framFits, framAsSetUp, countFit, limitFit, lengthsFit, setUpFit, stepFit};
+ghost use Rattle.judging.specs.Fitting.{forbidden, framFits, sumsFit, framAsSetUp, framsAsSetUp, countFit, limitFit, lengthsFit, setUpFit, stepFit};
 
 // Whether a call can be served.
 pub enum Fit {
@@ -24,7 +25,7 @@ pub enum Fit {
 // The address that stands for no unit. FEND and FESC are no addresses either.
 const NOBODY: u8 = 0x00;
 
-// The least and the most bytes of FRAM.
+// The least and the most bytes of an FRAM.
 const LEAST_FRAM: usize = 256;
 
 const MOST_FRAM: usize = 262_144;
@@ -45,7 +46,7 @@ fn is_forbidden(address: u8) -> bool
     address == FESC
 }
 
-// Whether FRAM can have this length.
+// Whether an FRAM can have this length.
 fn fram_fits(size: usize) -> bool
     ensures { λ r. ⌜ r ≡ framFits size ⌝ }
 {
@@ -68,6 +69,16 @@ fn sums_fit(sums: usize, fram: usize) -> bool
     fram / BLOCK_SIZE == sums
 }
 
+// Whether there is one sum for each block of both FRAMs.
+fn all_sums_fit(lengths: Lengths) -> bool
+    ensures { λ r. ⌜ r ≡ sumsFit lengths ⌝ }
+{
+    if sums_fit(lengths.bootloader_sums, lengths.bootloader) {
+        return sums_fit(lengths.sums, lengths.fram);
+    }
+    false
+}
+
 // 20 to 25, and then what comes after them.
 fn lengths_fit(address: u8, fits: bool, lengths: Lengths, next: Fit) -> Fit
     ensures { λ r. ⌜ r ≡ lengthsFit address fits lengths next ⌝ }
@@ -81,7 +92,7 @@ fn lengths_fit(address: u8, fits: bool, lengths: Lengths, next: Fit) -> Fit
     if !fits {
         return Fit::Unfit(Answer::BadFram);
     }
-    if !sums_fit(lengths.sums, lengths.fram) {
+    if !all_sums_fit(lengths) {
         return Fit::Unfit(Answer::BadSums);
     }
     if lengths.diagnostics != CHANNELS {
@@ -107,18 +118,39 @@ fn limit_fits(limit: usize) -> Fit
     }
 }
 
+// Whether both FRAMs can have these lengths.
+fn frams_fit(bootloader: usize, fram: usize) -> bool
+    ensures { λ r. ⌜ r ≡ (framFits bootloader && framFits fram) ⌝ }
+{
+    if fram_fits(bootloader) {
+        return fram_fits(fram);
+    }
+    false
+}
+
 pub fn set_up_fit(address: u8, limit: usize, lengths: Lengths) -> Fit
     ensures { λ r. ⌜ r ≡ setUpFit address limit lengths ⌝ }
 {
-    lengths_fit(address, fram_fits(lengths.fram), lengths, limit_fits(limit))
+    let fits = frams_fit(lengths.bootloader, lengths.fram);
+    lengths_fit(address, fits, lengths, limit_fits(limit))
 }
 
-// Whether FRAM has the length that was set up.
+// Whether an FRAM has the length that was set up.
 fn fram_as_set_up(size: usize, set_up: usize) -> bool
     ensures { λ r. ⌜ r ≡ framAsSetUp size «set_up» ⌝ }
 {
     if fram_fits(size) {
         return size == set_up;
+    }
+    false
+}
+
+// Whether both FRAMs have the lengths that were set up.
+fn frams_as_set_up(unit: Unit, lengths: Lengths) -> bool
+    ensures { λ r. ⌜ r ≡ framsAsSetUp unit lengths ⌝ }
+{
+    if fram_as_set_up(lengths.bootloader, unit.bootloader_len) {
+        return fram_as_set_up(lengths.fram, unit.fram_len);
     }
     false
 }
@@ -138,7 +170,7 @@ pub fn step_fit(unit: Unit, lengths: Lengths) -> Fit
 {
     let receiver = unit.receiver;
     // The record is tested when what is lent has passed: as a value of `next`, made before, it would cost each byte 17 instructions more.
-    let as_set_up = fram_as_set_up(lengths.fram, unit.fram_len);
+    let as_set_up = frams_as_set_up(unit, lengths);
     let fit = lengths_fit(unit.address, as_set_up, lengths, Fit::Fits);
     match fit {
         Fit::Unfit(answer) => Fit::Unfit(answer),

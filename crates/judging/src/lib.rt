@@ -13,12 +13,14 @@ ghost use lib.ListN.{length};
 ghost use Rattle.line.specs.Packing.{shortestMessage, messageSize};
 ghost use Rattle.judging.specs.Judging.{largestMessage, soundOf, runOf, judgingOf, receivedOf, judgeOf};
 
-// What the unit is between two calls: its address, the most data bytes of a message on its bus, its mode, the length of FRAM that
-// was set up, and its receiver.
+// What the unit is between two calls: its address, the most data bytes of a message on its bus, its mode, whether bootloader FRAM is
+// locked, the lengths of bootloader FRAM and of user FRAM that were set up, and its receiver.
 pub struct Unit {
     pub address: u8,
     pub limit: u16,
     pub mode: Mode,
+    pub locked: bool,
+    pub bootloader_len: usize,
     pub fram_len: usize,
     pub receiver: Receiver,
 }
@@ -26,6 +28,8 @@ pub struct Unit {
 // The lengths of what is lent to a call.
 pub struct Lengths {
     pub edac: usize,
+    pub bootloader: usize,
+    pub bootloader_sums: usize,
     pub fram: usize,
     pub sums: usize,
     pub diagnostics: usize,
@@ -105,6 +109,8 @@ fn received(unit: Unit, byte: u8, message: &mut [u8]) -> Judged
         address: unit.address,
         limit: unit.limit,
         mode,
+        locked: unit.locked,
+        bootloader_len: unit.bootloader_len,
         fram_len: unit.fram_len,
         receiver: after,
     };

@@ -4,3 +4,4 @@ pub mod Overlays
 pub mod Tests
 pub mod Files
 pub mod Turns
+pub mod FramStatus

@@ -1,3 +1,4 @@
 pub mod Bytes
 pub mod Edac
 pub mod Counts
+pub mod Status

@@ -12,7 +12,7 @@ use Rattle.carrying.specs.Ending.{longestData, Ending, done, refused, unfitted,
 use Rattle.carrying.specs.Held.{Held}
 use Rattle.judging.specs.declared.Unit.{Unit}
 use Rattle.replying.specs.Replies.{Said, saidOf, endingOf}
-use Rattle.unit.specs.World.{World, Outcome, outcome, withMode, withReply, heldOf, withHeld}
+use Rattle.unit.specs.World.{World, Outcome, outcome, withStanding, withReply, heldOf, withHeld}
 use Rattle.unit.specs.Steps.{answered}
 
 -- the scratch with the handler's part of it back in its place
@@ -30,24 +30,24 @@ the-data-stands made part bytes h =
 module _ (u : Unit) (w : World) (destination source control : ℕ) (field made part : List ℕ) (h : 3 ≤ length made) where
   answering : Left Held → Outcome
   answering l =
-      let s = saidOf destination source control field (endingOf (l .ended) (refilled made (l .reply))) (w .reply) in
-      outcome (withMode u (l .memory .mode)) (s .answer) (withReply (withHeld w (l .memory)) (s .reply))
+      let s = saidOf destination source control field (endingOf (l .ended) (refilled made (l .reply))) (w .buffers .reply) in
+      outcome (withStanding u (l .memory .standing)) (s .answer) (withReply (withHeld w (l .memory)) (s .reply))
 
   leaves-the-answer : (o : Ending Held) → answering (leaves o part (heldOf u w)) ≡ answered u destination source control field o w
   unfolding answering saidOf answered
   leaves-the-answer (done bytes changed) =
-      ap (λ d. let s = saidOf destination source control field (done d (tt {0})) (w .reply) in outcome (withMode u (changed .mode)) (s .answer) (withReply (withHeld w changed) (s .reply)))
+      ap (λ d. let s = saidOf destination source control field (done d (tt {0})) (w .buffers .reply) in outcome (withStanding u (changed .standing)) (s .answer) (withReply (withHeld w changed) (s .reply)))
       (the-data-stands made part bytes h)
   leaves-the-answer refused = refl
   leaves-the-answer unfitted = refl
 
   pub the-command-is-answered : (o : Ending Held) (s : Said) (ended : Ended) (back : List ℕ) (changed : Held)
       → left ended back changed ≡ leaves o part (heldOf u w)
-      → s ≡ saidOf destination source control field (endingOf ended (refilled made back)) (w .reply)
-      → outcome (withMode u (changed .mode)) (s .answer) (withReply (withHeld w changed) (s .reply)) ≡ answered u destination source control field o w
+      → s ≡ saidOf destination source control field (endingOf ended (refilled made back)) (w .buffers .reply)
+      → outcome (withStanding u (changed .standing)) (s .answer) (withReply (withHeld w changed) (s .reply)) ≡ answered u destination source control field o w
   unfolding answering
   the-command-is-answered o s ended back changed e k =
-      ap (λ (x : Said). outcome (withMode u (changed .mode)) (x .answer) (withReply (withHeld w changed) (x .reply))) k ∙ ap answering e ∙ leaves-the-answer o
+      ap (λ (x : Said). outcome (withStanding u (changed .standing)) (x .answer) (withReply (withHeld w changed) (x .reply))) k ∙ ap answering e ∙ leaves-the-answer o
 
 length-of-begun : (part bytes : List ℕ) → length (begun part bytes) ≡ length bytes + (length part - length bytes)
 unfolding begun

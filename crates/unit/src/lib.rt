@@ -9,6 +9,7 @@ use judging::fitting::set_up_fit;
 use line::packing::MESSAGE_SIZE;
 use line::receiver::Place;
 use line::receiver::Receiver;
+use memory::status::write_status;
 use replying::CODES;
 use replying::CONTROL;
 use replying::CRC_SIZE;
@@ -20,7 +21,7 @@ ghost use lib.ListN.{length};
 ghost use Rattle.line.specs.Packing.{shortestMessage, messageSize, replySize};
 ghost use Rattle.memory.specs.Counts.{channels};
 ghost use Rattle.memory.specs.Edac.{edacSize};
-ghost use Rattle.blocks.specs.Fram.{blockStart};
+ghost use Rattle.blocks.specs.Fram.{blockStart, kept};
 ghost use Rattle.carrying.specs.Ending.{isLimit};
 ghost use Rattle.unit.specs.World.{world, outcomeOf};
 ghost use Rattle.unit.specs.Steps.{setUpOf, commandedOf, stepOf};
@@ -34,27 +35,29 @@ pub struct Stepped {
 // Where the longest data field ends in a buffer for a message.
 const DATA_END: usize = 1031;
 
-// The address of the first byte of FRAM.
-const FIRST_OF_FRAM: u32 = 0x2004_0000;
-
-// Sets a unit up: computes all sums, in bootloader mode with a fresh receiver. A refused set-up hands back a record with unit
-// address 0, so that every later call with it is refused. The limit is wider here than in the record, so that no number is cut to one
+// Sets a unit up: computes all sums, in bootloader mode with a fresh receiver, with bootloader FRAM locked or not, which it shows in
+// the diagnostics. A refused set-up hands back a record with unit address 0, so that every later call with it is refused. The limit is wider here than in the record, so that no number is cut to one
 // that would be taken.
 pub fn set_up(
     address: u8,
     limit: usize,
+    locked: bool,
     edac: &[u8],
+    bootloader: &[u8],
+    bootloader_sums: &mut [u16],
     fram: &[u8],
     sums: &mut [u16],
-    diagnostics: &[u32],
+    diagnostics: &mut [u32],
     message: &[u8],
     reply: &[u8],
 ) -> Stepped
-    ensures { λ r. ⌜ outcomeOf r (world (now (edac .entry)) (now (fram .entry)) (now (sums .exit)) (now (diagnostics .entry)) (now (message .entry)) (now (reply .entry)))
-        ≡ setUpOf address limit (world (now (edac .entry)) (now (fram .entry)) (now (sums .entry)) (now (diagnostics .entry)) (now (message .entry)) (now (reply .entry))) ⌝ }
+    ensures { λ r. ⌜ outcomeOf r (world (now (edac .entry)) (kept (now (bootloader .entry)) (now («bootloader_sums» .exit))) (kept (now (fram .entry)) (now (sums .exit))) (now (diagnostics .exit)) (now (message .entry)) (now (reply .entry)))
+        ≡ setUpOf address limit locked (world (now (edac .entry)) (kept (now (bootloader .entry)) (now («bootloader_sums» .entry))) (kept (now (fram .entry)) (now (sums .entry))) (now (diagnostics .entry)) (now (message .entry)) (now (reply .entry))) ⌝ }
 {
     let lengths = Lengths {
         edac: edac.len(),
+        bootloader: bootloader.len(),
+        bootloader_sums: bootloader_sums.len(),
         fram: fram.len(),
         sums: sums.len(),
         diagnostics: diagnostics.len(),
@@ -72,19 +75,25 @@ pub fn set_up(
                 address: 0,
                 limit: 0,
                 mode: Mode::Bootloader,
+                locked: false,
+                bootloader_len: 0,
                 fram_len: 0,
                 receiver: fresh,
             },
             answer,
         },
         Fit::Fits => {
+            blocks::compute_sums(bootloader, bootloader_sums);
             blocks::compute_sums(fram, sums);
+            write_status(diagnostics, locked);
             let kept = limit as u16;
             Stepped {
                 unit: Unit {
                     address,
                     limit: kept,
                     mode: Mode::Bootloader,
+                    locked,
+                    bootloader_len: bootloader.len(),
                     fram_len: fram.len(),
                     receiver: fresh,
                 },
@@ -100,17 +109,20 @@ fn commanded(
     unit: Unit,
     count: usize,
     edac: &mut [u8],
+    bootloader: &mut [u8],
+    bootloader_sums: &mut [u16],
     fram: &mut [u8],
     sums: &mut [u16],
-    diagnostics: &[u32],
+    diagnostics: &mut [u32],
     message: &[u8],
     reply: &mut [u8],
 ) -> Stepped
-    requires { ⌜ (length (now edac) ≡ edacSize) × (length (now fram) ≡ blockStart (length (now sums))) × (length (now diagnostics) ≡ channels)
+    requires { ⌜ (length (now edac) ≡ edacSize) × (length (now bootloader) ≡ blockStart (length (now «bootloader_sums»)))
+        × (length (now fram) ≡ blockStart (length (now sums))) × (length (now diagnostics) ≡ channels)
         × (messageSize ≤ length (now message)) × (replySize ≤ length (now reply)) × (isLimit (unit .limit) ≡ true)
         × (shortestMessage ≤ count) × (count ≤ messageSize) ⌝ }
-    ensures { λ r. ⌜ outcomeOf r (world (now (edac .exit)) (now (fram .exit)) (now (sums .exit)) (now (diagnostics .entry)) (now (message .entry)) (now (reply .exit)))
-        ≡ commandedOf unit count (world (now (edac .entry)) (now (fram .entry)) (now (sums .entry)) (now (diagnostics .entry)) (now (message .entry)) (now (reply .entry))) ⌝ }
+    ensures { λ r. ⌜ outcomeOf r (world (now (edac .exit)) (kept (now (bootloader .exit)) (now («bootloader_sums» .exit))) (kept (now (fram .exit)) (now (sums .exit))) (now (diagnostics .exit)) (now (message .entry)) (now (reply .exit)))
+        ≡ commandedOf unit count (world (now (edac .entry)) (kept (now (bootloader .entry)) (now («bootloader_sums» .entry))) (kept (now (fram .entry)) (now (sums .entry))) (now (diagnostics .entry)) (now (message .entry)) (now (reply .entry))) ⌝ }
 {
     let end = count - CRC_SIZE;
     let code = message[CONTROL] % CODES;
@@ -120,11 +132,13 @@ fn commanded(
     let mut made = [0u8; MESSAGE_SIZE];
     let carried = command::carry_out(
         room,
-        FIRST_OF_FRAM,
         code,
         mode,
+        unit.locked,
         &message[HEAD..end],
         edac,
+        bootloader,
+        bootloader_sums,
         fram,
         sums,
         diagnostics,
@@ -138,6 +152,8 @@ fn commanded(
             address: unit.address,
             limit: unit.limit,
             mode: after,
+            locked: carried.locked,
+            bootloader_len: unit.bootloader_len,
             fram_len: unit.fram_len,
             receiver,
         },
@@ -150,17 +166,21 @@ pub fn step(
     unit: Unit,
     byte: u8,
     edac: &mut [u8],
+    bootloader: &mut [u8],
+    bootloader_sums: &mut [u16],
     fram: &mut [u8],
     sums: &mut [u16],
     diagnostics: &mut [u32],
     message: &mut [u8],
     reply: &mut [u8],
 ) -> Stepped
-    ensures { λ r. ⌜ outcomeOf r (world (now (edac .exit)) (now (fram .exit)) (now (sums .exit)) (now (diagnostics .exit)) (now (message .exit)) (now (reply .exit)))
-        ≡ stepOf unit byte (world (now (edac .entry)) (now (fram .entry)) (now (sums .entry)) (now (diagnostics .entry)) (now (message .entry)) (now (reply .entry))) ⌝ }
+    ensures { λ r. ⌜ outcomeOf r (world (now (edac .exit)) (kept (now (bootloader .exit)) (now («bootloader_sums» .exit))) (kept (now (fram .exit)) (now (sums .exit))) (now (diagnostics .exit)) (now (message .exit)) (now (reply .exit)))
+        ≡ stepOf unit byte (world (now (edac .entry)) (kept (now (bootloader .entry)) (now («bootloader_sums» .entry))) (kept (now (fram .entry)) (now (sums .entry))) (now (diagnostics .entry)) (now (message .entry)) (now (reply .entry))) ⌝ }
 {
     let lengths = Lengths {
         edac: edac.len(),
+        bootloader: bootloader.len(),
+        bootloader_sums: bootloader_sums.len(),
         fram: fram.len(),
         sums: sums.len(),
         diagnostics: diagnostics.len(),
@@ -180,6 +200,8 @@ pub fn step(
             next,
             count,
             edac,
+            bootloader,
+            bootloader_sums,
             fram,
             sums,
             diagnostics,

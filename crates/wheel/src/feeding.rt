@@ -25,17 +25,23 @@ fn fed_by(stepped: Stepped) -> Fed {
 pub fn begun(
     address: u8,
     limit: usize,
+    locked: bool,
     edac: &[u8; 1536],
+    bootloader: &[u8],
+    bootloader_sums: &mut [u16],
     fram: &[u8],
     sums: &mut [u16],
-    diagnostics: &[u32; 31],
+    diagnostics: &mut [u32; 31],
     message: &[u8; 1033],
     reply: &[u8; 2068],
 ) -> Fed {
     fed_by(unit::set_up(
         address,
         limit,
+        locked,
         edac,
+        bootloader,
+        bootloader_sums,
         fram,
         sums,
         diagnostics,
@@ -49,11 +55,24 @@ pub fn feed(
     held: Unit,
     byte: u8,
     edac: &mut [u8; 1536],
+    bootloader: &mut [u8],
+    bootloader_sums: &mut [u16],
     fram: &mut [u8],
     sums: &mut [u16],
     diagnostics: &mut [u32; 31],
     message: &mut [u8; 1033],
     reply: &mut [u8; 2068],
 ) -> Fed {
-    fed_by(unit::step(held, byte, edac, fram, sums, diagnostics, message, reply))
+    fed_by(unit::step(
+        held,
+        byte,
+        edac,
+        bootloader,
+        bootloader_sums,
+        fram,
+        sums,
+        diagnostics,
+        message,
+        reply,
+    ))
 }

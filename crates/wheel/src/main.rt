@@ -1,6 +1,6 @@
-// A wheel on standard input and output: `wheel [ADDRESS [FRAM [LIMIT]]]`. It sets a unit up, feeds it every byte that it reads and
-// writes every reply; where the input ends it says on standard error how often each answer came, by its number, which
-// diagnostics moved, and how many replies and bytes were written.
+// A wheel on standard input and output: `wheel [ADDRESS [FRAM [LIMIT [BOOTLOADER [LOCK]]]]]`. It sets a unit up, feeds it every byte
+// that it reads and writes every reply; where the input ends it says on standard error how often each answer came, by its number,
+// which diagnostics moved, whether bootloader FRAM is locked, and how many replies and bytes were written.
 mod feeding;
 
 use answer::number_of;
@@ -11,6 +11,7 @@ use judging::fitting::Fit;
 use judging::fitting::set_up_fit;
 use port::left;
 use words::arguments;
+use words::arguments::Locking;
 use words::report;
 use words::report::count;
 ghost use Prim.Native.Nat.{_≤_};
@@ -19,7 +20,10 @@ ghost use Prim.Native.Nat.{_≤_};
 fn run(
     address: u8,
     limit: usize,
+    locked: bool,
     edac: &mut [u8; 1536],
+    bootloader: &mut [u8],
+    bootloader_sums: &mut [u16],
     fram: &mut [u8],
     sums: &mut [u16],
     diagnostics: &mut [u32; 31],
@@ -31,7 +35,10 @@ fn run(
     let mut fed = begun(
         address,
         limit,
+        locked,
         edac,
+        bootloader,
+        bootloader_sums,
         fram,
         sums,
         diagnostics,
@@ -51,6 +58,8 @@ fn run(
             fed.unit,
             byte,
             edac,
+            bootloader,
+            bootloader_sums,
             fram,
             sums,
             diagnostics,
@@ -59,23 +68,30 @@ fn run(
         );
         count(&mut tally, fed.number);
     }
-    report::ended(&tally, diagnostics, flow.bytes, flow.fends);
+    let unit = fed.unit;
+    report::ended(&tally, diagnostics, unit.locked, flow.bytes, flow.fends);
 }
 
 // A wheel with fresh memory.
-fn serve(address: u8, size: usize, limit: usize)
-    requires { ⌜ size ≤ 262144 ⌝ }
+fn serve(address: u8, size: usize, limit: usize, bootloader_size: usize, locked: bool)
+    requires { ⌜ (size ≤ 262144) × («bootloader_size» ≤ 262144) ⌝ }
 {
     let mut edac = [0u8; 1536];
+    let mut bootloader = [0u8; 262144];
+    let mut bootloader_sums = [0u16; 1024];
     let mut fram = [0u8; 262144];
     let mut sums = [0u16; 1024];
     let mut diagnostics = [0u32; 31];
     let mut message = [0u8; 1033];
+    let bootloader_blocks = bootloader_size / 256;
     let blocks = size / 256;
     run(
         address,
         limit,
+        locked,
         &mut edac,
+        &mut bootloader[0..bootloader_size],
+        &mut bootloader_sums[0..bootloader_blocks],
         &mut fram[0..size],
         &mut sums[0..blocks],
         &mut diagnostics,
@@ -83,10 +99,12 @@ fn serve(address: u8, size: usize, limit: usize)
     );
 }
 
-// The number by which the unit would refuse to be set up so, or 0.
+// The number by which a unit with both FRAMs of this size would refuse to be set up so, or 0.
 fn refusal(address: u8, size: usize, limit: usize) -> u8 {
     let lengths = Lengths {
         edac: 1536,
+        bootloader: size,
+        bootloader_sums: size / 256,
         fram: size,
         sums: size / 256,
         diagnostics: 31,
@@ -100,20 +118,37 @@ fn refusal(address: u8, size: usize, limit: usize) -> u8 {
     }
 }
 
+// A wheel with the bootloader FRAM that was asked for, where address, size and limit will do.
+fn start(address: u8, size: usize, limit: usize)
+    requires { ⌜ size ≤ 262144 ⌝ }
+{
+    let bootloader_size = arguments::bootloader();
+    if refusal(address, bootloader_size, limit) != 0 {
+        report::bad_bootloader();
+        return;
+    }
+    let locking = arguments::lock();
+    match locking {
+        Locking::Unlocked => serve(address, size, limit, bootloader_size, false),
+        Locking::Locked => serve(address, size, limit, bootloader_size, true),
+        Locking::Neither => report::bad_lock(),
+    }
+}
+
 fn main() {
     if arguments::is_help() {
         report::help();
         return;
     }
-    if os::arg_count() > 4 {
+    if os::arg_count() > 6 {
         report::usage();
         return;
     }
     let address = arguments::address();
-    let size = arguments::size();
+    let size = arguments::fram();
     let limit = arguments::limit();
     match refusal(address, size, limit) {
-        0 => serve(address, size, limit),
+        0 => start(address, size, limit),
         20 => report::bad_address(),
         29 => report::bad_limit(),
         _ => report::bad_fram(),

@@ -1,4 +1,5 @@
-// The program's arguments: a unit address, a size of FRAM and a limit, each in decimal, or in hexadecimal after 0x.
+// The program's arguments: a unit address, a size of FRAM, a limit and a size of bootloader FRAM, each in decimal, or in hexadecimal
+// after 0x; and whether bootloader FRAM is locked, in a word.
 
 ghost use Prim.Native.Nat.{_≤_};
 
@@ -77,16 +78,23 @@ pub fn address() -> u8 {
     number as u8
 }
 
-// The size of FRAM that was asked for, and 0, which FRAM never has, where it is too large. Which others FRAM cannot have is for the
+// A size of FRAM that was asked for, and 0, which FRAM never has, where it is too large. Which others FRAM cannot have is for the
 // unit to say.
-pub fn size() -> usize
+fn size(place: usize) -> usize
     ensures { λ r. ⌜ r ≤ 262144 ⌝ }
 {
-    let number = argument(2, 65_536);
+    let number = argument(place, 65_536);
     if number > 262_144 {
         return 0;
     }
     number as usize
+}
+
+// The size of user FRAM.
+pub fn fram() -> usize
+    ensures { λ r. ⌜ r ≤ 262144 ⌝ }
+{
+    size(2)
 }
 
 // The limit that was asked for: the most data bytes of a message. Which limits no unit has is for the unit to say.
@@ -94,10 +102,41 @@ pub fn limit() -> usize {
     argument(3, 1_028) as usize
 }
 
+// The size of bootloader FRAM.
+pub fn bootloader() -> usize
+    ensures { λ r. ⌜ r ≤ 262144 ⌝ }
+{
+    size(4)
+}
+
+// Whether one argument is this word.
+fn is_word(place: usize, word: &[u8]) -> bool {
+    let mut text = io::buffer();
+    let length = os::arg(place, &mut text);
+    check::same(&text[..length], word)
+}
+
+// What is said of bootloader FRAM.
+pub enum Locking {
+    Unlocked,
+    Locked,
+    Neither,
+}
+
+pub fn lock() -> Locking {
+    if os::arg_count() <= 5 {
+        return Locking::Unlocked;
+    }
+    if is_word(5, b"unlocked") {
+        return Locking::Unlocked;
+    }
+    if is_word(5, b"locked") {
+        return Locking::Locked;
+    }
+    Locking::Neither
+}
+
 // Whether the first argument asks for help.
 pub fn is_help() -> bool {
-    let mut text = io::buffer();
-    let length = os::arg(1, &mut text);
-    let word = &text[..length];
-    check::same(word, b"--help") || check::same(word, b"-h")
+    is_word(1, b"--help") || is_word(1, b"-h")
 }

@@ -2,42 +2,64 @@
 use libc::STDERR_FILENO;
 use libc::STDOUT_FILENO;
 
+// The diagnostic that set-up writes: it shows whether bootloader FRAM is locked.
+const FRAM_STATUS: usize = 0x06;
+
 fn said(words: &[u8]) {
     io::write_all(STDERR_FILENO, words);
 }
 
+fn usage_to(file: i32) {
+    io::write_all(
+        file,
+        b"usage: wheel [ADDRESS [FRAM [LIMIT [BOOTLOADER [LOCK]]]]]\n",
+    );
+}
+
 pub fn help() {
+    usage_to(STDOUT_FILENO);
     io::write_all(
         STDOUT_FILENO,
-        b"usage: wheel [ADDRESS [FRAM [LIMIT]]]\n\
-        A reaction wheel's command unit: the line's bytes on standard input, its replies on standard output, and at the end on\n\
-        standard error how often each answer came, which diagnostics moved, and what was written.\n\
-        \x20 ADDRESS  1 to 255, but not 0xC0 or 0xDB; 0x41 if there is none\n\
-        \x20 FRAM     its bytes, a multiple of 256 from 256 to 262144; 65536 if there is none\n\
-        \x20 LIMIT    the most data bytes of a message, 260 to 1028; 1028 if there is none\n\
-        All are decimal, or hexadecimal after 0x. A PING and its reply:\n\
+        b"A reaction wheel's command unit: the line's bytes on standard input, its replies on standard output, and at the end on\n\
+        standard error how often each answer came, which diagnostics moved, whether bootloader FRAM is locked, and what was\n\
+        written.\n\
+        \x20 ADDRESS     1 to 255, but not 0xC0 or 0xDB; 0x41 if there is none\n\
+        \x20 FRAM        bytes of user FRAM, a multiple of 256 from 256 to 262144; 65536 if there is none\n\
+        \x20 LIMIT       the most data bytes of a message, 260 to 1028; 1028 if there is none\n\
+        \x20 BOOTLOADER  bytes of bootloader FRAM, as those of FRAM\n\
+        \x20 LOCK        whether bootloader FRAM is locked: locked, or unlocked, as it is if there is none\n\
+        Numbers are decimal, or hexadecimal after 0x. A PING and its reply:\n\
         \x20 printf '\\xc0\\x41\\x11\\x80\\xd8\\x6d\\xc0' | ./run | od -An -tx1z\n",
     );
 }
 
 pub fn usage() {
-    said(b"usage: wheel [ADDRESS [FRAM [LIMIT]]]\n");
+    usage_to(STDERR_FILENO);
 }
 
 pub fn bad_address() {
-    said(
-        b"wheel: ADDRESS is a number from 1 to 255, but not 0xC0 or 0xDB; usage: wheel [ADDRESS [FRAM [LIMIT]]]\n",
-    );
+    said(b"wheel: ADDRESS is a number from 1 to 255, but not 0xC0 or 0xDB; ");
+    usage();
 }
 
 pub fn bad_fram() {
-    said(
-        b"wheel: FRAM is a multiple of 256 from 256 to 262144; usage: wheel [ADDRESS [FRAM [LIMIT]]]\n",
-    );
+    said(b"wheel: FRAM is a multiple of 256 from 256 to 262144; ");
+    usage();
 }
 
 pub fn bad_limit() {
-    said(b"wheel: LIMIT is a number from 260 to 1028; usage: wheel [ADDRESS [FRAM [LIMIT]]]\n");
+    said(b"wheel: LIMIT is a number from 260 to 1028; ");
+    usage();
+}
+
+pub fn bad_bootloader() {
+    said(b"wheel: BOOTLOADER is a multiple of 256 from 256 to 262144; ");
+    usage();
+}
+
+pub fn bad_lock() {
+    said(b"wheel: LOCK is locked or unlocked; ");
+    usage();
 }
 
 pub fn read_failed(error: i32) {
@@ -85,23 +107,37 @@ fn answers(tally: &[u64; 30]) {
     }
 }
 
-fn wide(value: u32) -> u64 {
+// How far a diagnostic has moved. All were 0 when the wheel was set up but the FRAM status, of which the lock is said in words.
+fn moved(i: usize, value: u32) -> u64 {
+    if i == FRAM_STATUS {
+        return 0;
+    }
     value as u64
 }
 
-// The diagnostics that moved: all were 0 when the wheel was set up.
+// The diagnostics that moved.
 fn diagnostics(values: &[u32; 31]) {
     let mut i = 0;
     while i < 31 {
-        numbered(b"diagnostic ", i, wide(values[i]));
+        numbered(b"diagnostic ", i, moved(i, values[i]));
         i += 1;
     }
 }
 
+// Whether bootloader FRAM is locked.
+fn lock(locked: bool) {
+    if locked {
+        said(b"bootloader FRAM: locked\n");
+    } else {
+        said(b"bootloader FRAM: unlocked\n");
+    }
+}
+
 // What is said at the end. A reply has two FENDs, its first byte and its last.
-pub fn ended(tally: &[u64; 30], values: &[u32; 31], bytes: u64, fends: u64) {
+pub fn ended(tally: &[u64; 30], values: &[u32; 31], locked: bool, bytes: u64, fends: u64) {
     answers(tally);
     diagnostics(values);
+    lock(locked);
     line(b"replies written: ", fends / 2);
     line(b"bytes written: ", bytes);
 }

@@ -31,8 +31,14 @@ same-length-5 c = search needs
 same-length-6 : tie.Need-same-length-6
 same-length-6 c = search needs
 
+same-length-7 : tie.Need-same-length-7
+same-length-7 c = search needs
+
+same-length-8 : tie.Need-same-length-8
+same-length-8 c = search needs
+
 returns : tie.Need-returns
-returns c = a-step-passed-on _ _ _ _ _ _ _ (c .stepped-out .ensures) (c .before .before .before .before .before .before .before .before .before .before .before .before .before .step .ensures) (search needs)
+returns c = a-step-passed-on _ _ _ _ _ _ _ (c .stepped-out .ensures) (c .before .before .before .before .before .before .before .before .before .before .before .before .before .before .before .before .before .step .ensures) (c .before .before .before .before .before .before .before .before .before .before .before .before .before .before .before .before .before .before .before .before .before .before .before .before .before .before .unit-in .ensures)
 
 pub wheel-step-spec : {M : Type 1} → statement M
 wheel-step-spec =
@@ -47,4 +53,6 @@ wheel-step-spec =
     same-length-4
     same-length-5
     same-length-6
+    same-length-7
+    same-length-8
     returns)

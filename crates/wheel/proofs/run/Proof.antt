@@ -1,4 +1,4 @@
--- `wheel::run` is safe and ends: FRAM and sums keep their lengths, and the measure is the number of turns that are left, of which there is one at the start of each. Assumes nothing.
+-- `wheel::run` is safe and ends: both FRAMs and their sums keep their lengths, and the measure is the number of turns that are left, of which there is one at the start of each. Assumes nothing.
 use Prim.Native.Nat.{_<_}
 use mathlib.Core.Path.{_≡_, refl, _∙_}
 use lib.ListN.{length}
@@ -7,11 +7,11 @@ use Rattle.wheel.proofs.run.Statement.{statement}
 use Rattle.wheel.proofs.run.Tie as tie
 
 abbrev Inv-loop : tie.InvT-loop
-Inv-loop address limit edac₀ fram₀ sums₀ diagnostics₀ message₀ reply₀ buffer₀ tally₀ fed₀ flow₀ turns₀ edac fram sums diagnostics message reply buffer tally fed flow turns =
-    (0 < turns) × (length fram ≡ length fram₀) × (length sums ≡ length sums₀)
+Inv-loop address limit locked edac₀ bootloader₀ bootloader-sums₀ fram₀ sums₀ diagnostics₀ message₀ reply₀ buffer₀ tally₀ fed₀ flow₀ turns₀ edac bootloader bootloader-sums fram sums diagnostics message reply buffer tally fed flow turns =
+    (0 < turns) × (length bootloader ≡ length bootloader₀) × (length bootloader-sums ≡ length bootloader-sums₀) × (length fram ≡ length fram₀) × (length sums ≡ length sums₀)
 
 abbrev μ-loop : tie.MeasureT-loop
-μ-loop address limit edac₀ fram₀ sums₀ diagnostics₀ message₀ reply₀ buffer₀ tally₀ fed₀ flow₀ turns₀ edac fram sums diagnostics message reply buffer tally fed flow turns =
+μ-loop address limit locked edac₀ bootloader₀ bootloader-sums₀ fram₀ sums₀ diagnostics₀ message₀ reply₀ buffer₀ tally₀ fed₀ flow₀ turns₀ edac bootloader bootloader-sums fram sums diagnostics message reply buffer tally fed flow turns =
     turns
 
 begun-requires : tie.Need-begun-requires Inv-loop μ-loop
@@ -21,7 +21,7 @@ fresh-requires : tie.Need-fresh-requires Inv-loop μ-loop
 fresh-requires c κs = tt
 
 loop-holds : tie.Need-loop-holds Inv-loop μ-loop
-loop-holds c = (omega arith, refl, refl)
+loop-holds c = (omega arith, refl, refl, refl, refl)
 
 answered-requires : tie.Need-answered-requires Inv-loop μ-loop
 answered-requires c κs = tt
@@ -39,23 +39,29 @@ count-requires : tie.Need-count-requires Inv-loop μ-loop
 count-requires c κs = tt
 
 loop-less : tie.Need-loop-less Inv-loop μ-loop
-loop-less c = c .before .before .before .before .before .before .before .before .before .before .before .before .before .before .before .left .ensures (c .before .before .before .before .before .before .before .before .before .before .before .before .before .before .before .before .before .before .before .loop .inv .0)
+loop-less c = c .before .before .before .before .before .before .before .before .before .before .before .before .before .before .before .before .before .before .before .before .before .left .ensures (c .before .before .before .before .before .before .before .before .before .before .before .before .before .before .before .before .before .before .before .before .before .before .before .before .before .loop .inv .0)
 
 loop-again : tie.Need-loop-again Inv-loop μ-loop
 loop-again c =
-    let more = c .before .before .before .before .before .before .before .before .before .before .before .before .before .before .if1 .left in
-    let kept = c .before .before .before .before .before .before .feed .kept in
-    let inv = c .before .before .before .before .before .before .before .before .before .before .before .before .before .before .before .before .before .before .before .loop .inv in
-    (omega (arith, more), kept .1 .1 .1 .0 ∙ inv .1, kept .1 .1 .1 .1 .0 ∙ inv .2)
+    let more = c .before .before .before .before .before .before .before .before .before .before .before .before .before .before .before .before .before .before .before .before .if1 .left in
+    let kept = c .before .before .before .before .before .before .before .before .before .before .feed .kept in
+    let inv = c .before .before .before .before .before .before .before .before .before .before .before .before .before .before .before .before .before .before .before .before .before .before .before .before .before .loop .inv in
+    (omega (arith, more), kept .1 .1 .1 .0 ∙ inv .1, kept .1 .1 .1 .1 .0 ∙ inv .2, kept .1 .1 .1 .1 .1 .0 ∙ inv .3, kept .1 .1 .1 .1 .1 .1 .0 ∙ inv .4)
 
 ended-requires : tie.Need-ended-requires Inv-loop μ-loop
 ended-requires c κs = tt
 
 same-length : tie.Need-same-length Inv-loop μ-loop
-same-length c = c .before .before .before .before .before .before .before .before .loop .inv .1
+same-length c = c .before .before .before .before .before .before .before .before .before .loop .inv .1
 
 same-length-2 : tie.Need-same-length-2 Inv-loop μ-loop
-same-length-2 c = c .before .before .before .before .before .before .before .before .loop .inv .2 ∙ c .before .before .before .before .before .before .before .before .before .before .before .before .begun .kept .1 .1 .1 .1 .0
+same-length-2 c = c .before .before .before .before .before .before .before .before .before .loop .inv .2 ∙ c .before .before .before .before .before .before .before .before .before .before .before .before .before .before .before .begun .kept .1 .1 .1 .1 .1 .0
+
+same-length-3 : tie.Need-same-length-3 Inv-loop μ-loop
+same-length-3 c = c .before .before .before .before .before .before .before .before .before .loop .inv .3
+
+same-length-4 : tie.Need-same-length-4 Inv-loop μ-loop
+same-length-4 c = c .before .before .before .before .before .before .before .before .before .loop .inv .4 ∙ c .before .before .before .before .before .before .before .before .before .before .before .before .before .before .before .begun .kept .1 .1 .1 .1 .1 .1 .1 .0
 
 returns : tie.Need-returns Inv-loop μ-loop
 returns c = tt
@@ -79,4 +85,6 @@ run-spec =
     ended-requires
     same-length
     same-length-2
+    same-length-3
+    same-length-4
     returns)

@@ -9,8 +9,11 @@ mode-in-requires c κs = search needs
 place-in-requires : tie.Need-place-in-requires
 place-in-requires c κs = search needs
 
+lock-in-requires : tie.Need-lock-in-requires
+lock-in-requires c κs = search needs
+
 returns : tie.Need-returns
-returns c = rw (c .before .mode-in .ensures, c .place-in .ensures)
+returns c = rw (c .before .before .mode-in .ensures, c .before .place-in .ensures, c .lock-in .ensures)
 
 pub unit-in-spec : {M : Type 1} → statement M
-unit-in-spec = tie.close (tie.spec mode-in-requires place-in-requires returns)
+unit-in-spec = tie.close (tie.spec mode-in-requires place-in-requires lock-in-requires returns)

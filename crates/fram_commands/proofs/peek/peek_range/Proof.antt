@@ -1,11 +1,11 @@
--- `fram_commands::peek::peek_range` meets its contract, by one law for each of its four ways. Assumes nothing.
+-- `fram_commands::peek::peek_range` meets its contract, by one law for each of its five ways. Assumes nothing.
 use lib.ListN.{length}
-use Rattle.fram_commands.proofs.Ways.{a-place-lies-inside, peek-of-none, peek-without-room, peek-outside, peek-inside}
+use Rattle.fram_commands.proofs.Ways.{a-place-lies-inside, peek-of-none, peek-without-room, peek-over-the-border, peek-outside, peek-inside}
 use mathlib.Core.Path.{sym, ap, _∙_}
 use native.Mathlib.Omega.{arith}
 use Rattle.blocks.specs.Fram.{placeOf}
+use Rattle.fram_commands.specs.Windows.{overBorder}
 use Rattle.carrying.proofs.Writing.{is-done, is-refused, is-unfitted, address-then-bytes, length-of-address-then-bytes}
-use Rattle.fram_commands.proofs.Ways.{peek-of-none, peek-without-room, peek-outside, peek-inside}
 use borrow.Author.Needs.{needs}
 use Rattle.fram_commands.proofs.peek.peek_range.Statement.{statement}
 use Rattle.fram_commands.proofs.peek.peek_range.Tie as tie
@@ -22,6 +22,16 @@ returns-2 c = is-refused _ _ _ (peek-without-room _ _ _ _ _ (c .before .if1 .lef
 word32-requires : tie.Need-word32-requires
 word32-requires c κs = tt
 
+is-over-border-requires : tie.Need-is-over-border-requires
+is-over-border-requires c κs = search needs
+
+returns-3 : tie.Need-returns-3
+returns-3 c =
+    let a = c .before .before .before .before .before .before .before .before .args in
+    is-refused _ _ _
+    (peek-over-the-border (a .room) (a .first) (a .fram .now) (a .field .now) (a .count) (c .before .before .before .before .if1 .left) (c .before .before .before .if2 .left)
+    (ap (λ n. overBorder n (a .count)) (sym (c .before .before .word32 .ensures)) ∙ sym (c .before .is-over-border .ensures) ∙ c .if3 .taken))
+
 place-requires : tie.Need-place-requires
 place-requires c κs = search needs
 
@@ -33,8 +43,8 @@ enum-known-found c = search needs
 
 add-end : tie.Need-add-end
 add-end c =
-    let a = c .before .before .before .before .before .before .before .before .before .before .args in
-    omega (arith, a-place-lies-inside (a .first) (length (a .fram .now)) (c .before .before .before .before .word32 .result) (a .count) (c .before .found .given .0 .0) (sym (c .before .before .before .place .ensures) ∙ c .before .found .given .1))
+    let a = c .before .before .before .before .before .before .before .before .before .before .before .before .args in
+    omega (arith, a-place-lies-inside (a .first) (length (a .fram .now)) (c .before .before .before .before .before .before .word32 .result) (a .count) (c .before .found .given .0 .0) (sym (c .before .before .before .place .ensures) ∙ c .before .found .given .1))
 
 sub-put : tie.Need-sub-put
 sub-put c = search needs
@@ -56,33 +66,36 @@ part-put-start-2 c = search needs
 
 part-put-end-2 : tie.Need-part-put-end-2
 part-put-end-2 c =
-    let a = c .before .before .before .before .before .before .before .before .before .before .before .before .before .before .before .args in
-    omega (arith, a-place-lies-inside (a .first) (length (a .fram .now)) (c .before .before .before .before .before .before .before .before .before .word32 .result) (a .count) (c .before .before .before .before .before .before .found .given .0 .0) (sym (c .before .before .before .before .before .before .before .before .place .ensures) ∙ c .before .before .before .before .before .before .found .given .1))
+    let a = c .before .before .before .before .before .before .before .before .before .before .before .before .before .before .before .before .before .args in
+    omega (arith, a-place-lies-inside (a .first) (length (a .fram .now)) (c .before .before .before .before .before .before .before .before .before .before .before .word32 .result) (a .count) (c .before .before .before .before .before .before .found .given .0 .0) (sym (c .before .before .before .before .before .before .before .before .place .ensures) ∙ c .before .before .before .before .before .before .found .given .1))
 
 put-requires-2 : tie.Need-put-requires-2
 put-requires-2 c κs = search needs
 
-add-t16 : tie.Need-add-t16
-add-t16 c = search needs
+add-t17 : tie.Need-add-t17
+add-t17 c = search needs
 
-returns-3 : tie.Need-returns-3
-returns-3 c =
+returns-4 : tie.Need-returns-4
+returns-4 c =
+    let a = c .before .before .before .before .before .before .before .before .before .before .before .args in
     is-unfitted _ _ _
-    (peek-outside _ _ _ _ _ (c .before .before .before .before .before .if1 .left) (c .before .before .before .before .if2 .left)
-    (ap (λ n. placeOf (c .before .before .before .before .before .before .before .before .before .args .first) (length (c .before .before .before .before .before .before .before .before .before .args .fram .now)) n (c .before .before .before .before .before .before .before .before .before .args .count)) (sym (c .before .before .before .word32 .ensures)) ∙ sym (c .before .before .place .ensures) ∙ c .enum-told .given .1))
+    (peek-outside _ _ _ _ _ (c .before .before .before .before .before .before .before .if1 .left) (c .before .before .before .before .before .before .if2 .left)
+    (ap (λ n. overBorder n (a .count)) (sym (c .before .before .before .before .before .word32 .ensures)) ∙ sym (c .before .before .before .before .is-over-border .ensures) ∙ c .before .before .before .if3 .left)
+    (ap (λ n. placeOf (a .first) (length (a .fram .now)) n (a .count)) (sym (c .before .before .before .before .before .word32 .ensures)) ∙ sym (c .before .before .place .ensures) ∙ c .enum-told .given .1))
 
 same-length : tie.Need-same-length
 same-length c = search needs
 
-returns-4 : tie.Need-returns-4
-returns-4 c =
-    let a = c .before .before .before .before .before .before .before .before .before .before .before .before .before .before .before .before .before .before .before .before .args in
+returns-5 : tie.Need-returns-5
+returns-5 c =
+    let a = c .before .before .before .before .before .before .before .before .before .before .before .before .before .before .before .before .before .before .before .before .before .before .args in
     let at = c .before .before .before .before .before .before .before .before .before .before .before .found .given .0 .0 in
     let there = sym (c .before .before .before .before .before .before .before .before .before .before .before .before .before .place .ensures) ∙ c .before .before .before .before .before .before .before .before .before .before .before .found .given .1 in
-    let ends = a-place-lies-inside (a .first) (length (a .fram .now)) (c .before .before .before .before .before .before .before .before .before .before .before .before .before .before .word32 .result) (a .count) at there in
+    let ends = a-place-lies-inside (a .first) (length (a .fram .now)) (c .before .before .before .before .before .before .before .before .before .before .before .before .before .before .before .before .word32 .result) (a .count) at there in
     is-done _ _ _ _ _ tt tt
-    (peek-inside (a .room) (a .first) (a .fram .now) (a .field .now) (a .count) (c .before .before .before .before .before .before .before .before .before .before .before .before .before .before .before .before .if1 .left) (c .before .before .before .before .before .before .before .before .before .before .before .before .before .before .before .if2 .left) at
-    (ap (λ n. placeOf (a .first) (length (a .fram .now)) n (a .count)) (sym (c .before .before .before .before .before .before .before .before .before .before .before .before .before .before .word32 .ensures)) ∙ there))
+    (peek-inside (a .room) (a .first) (a .fram .now) (a .field .now) (a .count) (c .before .before .before .before .before .before .before .before .before .before .before .before .before .before .before .before .before .before .if1 .left) (c .before .before .before .before .before .before .before .before .before .before .before .before .before .before .before .before .before .if2 .left)
+    (ap (λ n. overBorder n (a .count)) (sym (c .before .before .before .before .before .before .before .before .before .before .before .before .before .before .before .before .word32 .ensures)) ∙ sym (c .before .before .before .before .before .before .before .before .before .before .before .before .before .before .before .is-over-border .ensures) ∙ c .before .before .before .before .before .before .before .before .before .before .before .before .before .before .if3 .left) at
+    (ap (λ n. placeOf (a .first) (length (a .fram .now)) n (a .count)) (sym (c .before .before .before .before .before .before .before .before .before .before .before .before .before .before .before .before .word32 .ensures)) ∙ there))
     (length-of-address-then-bytes 4 (a .field .now) (a .fram .now) at (a .count) (omega arith) (omega arith))
     (address-then-bytes 4 (a .field .now) (a .fram .now) (a .reply .now) _ _ at (a .count) (omega arith) (c .before .before .before .before .before .before .before .put .ensures) (c .before .before .put2 .ensures))
 
@@ -94,6 +107,8 @@ peek-range-spec =
     add-if2
     returns-2
     word32-requires
+    is-over-border-requires
+    returns-3
     place-requires
     enum-told
     enum-known-found
@@ -106,7 +121,7 @@ peek-range-spec =
     part-put-start-2
     part-put-end-2
     put-requires-2
-    add-t16
-    returns-3
+    add-t17
+    returns-4
     same-length
-    returns-4)
+    returns-5)

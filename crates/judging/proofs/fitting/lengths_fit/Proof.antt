@@ -18,23 +18,23 @@ returns-2 c = refused-21 _ _ _ _ (sym (c .before .before .before .is-forbidden .
 returns-3 : tie.Need-returns-3
 returns-3 c = refused-22 _ _ _ _ (sym (c .before .before .before .before .is-forbidden .ensures) ∙ c .before .before .before .if1 .left) (c .before .if2 .left) (not-true _ (c .if3 .taken))
 
-sums-fit-requires : tie.Need-sums-fit-requires
-sums-fit-requires c κs = search needs
+all-sums-fit-requires : tie.Need-all-sums-fit-requires
+all-sums-fit-requires c κs = search needs
 
 returns-4 : tie.Need-returns-4
-returns-4 c = refused-23 _ _ _ _ (sym (c .before .before .before .before .before .before .is-forbidden .ensures) ∙ c .before .before .before .before .before .if1 .left) (c .before .before .before .if2 .left) (not-false _ (c .before .before .if3 .left)) (sym (c .before .sums-fit .ensures) ∙ not-true _ (c .if4 .taken))
+returns-4 c = refused-23 _ _ _ _ (sym (c .before .before .before .before .before .before .is-forbidden .ensures) ∙ c .before .before .before .before .before .if1 .left) (c .before .before .before .if2 .left) (not-false _ (c .before .before .if3 .left)) (sym (c .before .all-sums-fit .ensures) ∙ not-true _ (c .if4 .taken))
 
 returns-5 : tie.Need-returns-5
-returns-5 c = refused-24 _ _ _ _ (sym (c .before .before .before .before .before .before .before .before .is-forbidden .ensures) ∙ c .before .before .before .before .before .before .before .if1 .left) (c .before .before .before .before .before .if2 .left) (not-false _ (c .before .before .before .before .if3 .left)) (sym (c .before .before .before .sums-fit .ensures) ∙ not-false _ (c .before .before .if4 .left)) (c .if5 .taken)
+returns-5 c = refused-24 _ _ _ _ (sym (c .before .before .before .before .before .before .before .before .is-forbidden .ensures) ∙ c .before .before .before .before .before .before .before .if1 .left) (c .before .before .before .before .before .if2 .left) (not-false _ (c .before .before .before .before .if3 .left)) (sym (c .before .before .before .all-sums-fit .ensures) ∙ not-false _ (c .before .before .if4 .left)) (c .if5 .taken)
 
 returns-6 : tie.Need-returns-6
-returns-6 c = refused-25-message _ _ _ _ (sym (c .before .before .before .before .before .before .before .before .before .before .is-forbidden .ensures) ∙ c .before .before .before .before .before .before .before .before .before .if1 .left) (c .before .before .before .before .before .before .before .if2 .left) (not-false _ (c .before .before .before .before .before .before .if3 .left)) (sym (c .before .before .before .before .before .sums-fit .ensures) ∙ not-false _ (c .before .before .before .before .if4 .left)) (c .before .before .if5 .left) (c .if6 .taken)
+returns-6 c = refused-25-message _ _ _ _ (sym (c .before .before .before .before .before .before .before .before .before .before .is-forbidden .ensures) ∙ c .before .before .before .before .before .before .before .before .before .if1 .left) (c .before .before .before .before .before .before .before .if2 .left) (not-false _ (c .before .before .before .before .before .before .if3 .left)) (sym (c .before .before .before .before .before .all-sums-fit .ensures) ∙ not-false _ (c .before .before .before .before .if4 .left)) (c .before .before .if5 .left) (c .if6 .taken)
 
 returns-7 : tie.Need-returns-7
-returns-7 c = refused-25-reply _ _ _ _ (sym (c .before .before .before .before .before .before .before .before .before .before .before .before .is-forbidden .ensures) ∙ c .before .before .before .before .before .before .before .before .before .before .before .if1 .left) (c .before .before .before .before .before .before .before .before .before .if2 .left) (not-false _ (c .before .before .before .before .before .before .before .before .if3 .left)) (sym (c .before .before .before .before .before .before .before .sums-fit .ensures) ∙ not-false _ (c .before .before .before .before .before .before .if4 .left)) (c .before .before .before .before .if5 .left) (c .before .before .if6 .left) (c .if7 .taken)
+returns-7 c = refused-25-reply _ _ _ _ (sym (c .before .before .before .before .before .before .before .before .before .before .before .before .is-forbidden .ensures) ∙ c .before .before .before .before .before .before .before .before .before .before .before .if1 .left) (c .before .before .before .before .before .before .before .before .before .if2 .left) (not-false _ (c .before .before .before .before .before .before .before .before .if3 .left)) (sym (c .before .before .before .before .before .before .before .all-sums-fit .ensures) ∙ not-false _ (c .before .before .before .before .before .before .if4 .left)) (c .before .before .before .before .if5 .left) (c .before .before .if6 .left) (c .if7 .taken)
 
 returns-8 : tie.Need-returns-8
-returns-8 c = not-refused _ _ _ _ (sym (c .before .before .before .before .before .before .before .before .before .before .before .before .is-forbidden .ensures) ∙ c .before .before .before .before .before .before .before .before .before .before .before .if1 .left) (c .before .before .before .before .before .before .before .before .before .if2 .left) (not-false _ (c .before .before .before .before .before .before .before .before .if3 .left)) (sym (c .before .before .before .before .before .before .before .sums-fit .ensures) ∙ not-false _ (c .before .before .before .before .before .before .if4 .left)) (c .before .before .before .before .if5 .left) (c .before .before .if6 .left) (c .if7 .left)
+returns-8 c = not-refused _ _ _ _ (sym (c .before .before .before .before .before .before .before .before .before .before .before .before .is-forbidden .ensures) ∙ c .before .before .before .before .before .before .before .before .before .before .before .if1 .left) (c .before .before .before .before .before .before .before .before .before .if2 .left) (not-false _ (c .before .before .before .before .before .before .before .before .if3 .left)) (sym (c .before .before .before .before .before .before .before .all-sums-fit .ensures) ∙ not-false _ (c .before .before .before .before .before .before .if4 .left)) (c .before .before .before .before .if5 .left) (c .before .before .if6 .left) (c .if7 .left)
 
 pub lengths-fit-spec : {M : Type 1} → statement M
 lengths-fit-spec =
@@ -44,7 +44,7 @@ lengths-fit-spec =
     returns
     returns-2
     returns-3
-    sums-fit-requires
+    all-sums-fit-requires
     returns-4
     returns-5
     returns-6

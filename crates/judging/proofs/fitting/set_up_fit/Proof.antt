@@ -5,8 +5,8 @@ use borrow.Author.Needs.{needs}
 use Rattle.judging.proofs.fitting.set_up_fit.Statement.{statement}
 use Rattle.judging.proofs.fitting.set_up_fit.Tie as tie
 
-fram-fits-requires : tie.Need-fram-fits-requires
-fram-fits-requires c κs = search needs
+frams-fit-requires : tie.Need-frams-fit-requires
+frams-fit-requires c κs = search needs
 
 limit-fits-requires : tie.Need-limit-fits-requires
 limit-fits-requires c κs = search needs
@@ -18,7 +18,7 @@ returns : tie.Need-returns
 unfolding setUpFit
 returns c =
     c .lengths-fit .ensures
-    ∙ ap₂ (λ f n. lengthsFit (c .before .before .before .args .address) f (c .before .before .before .args .lengths) n) (c .before .before .fram-fits .ensures) (c .before .limit-fits .ensures)
+    ∙ ap₂ (λ f n. lengthsFit (c .before .before .before .args .address) f (c .before .before .before .args .lengths) n) (c .before .before .frams-fit .ensures) (c .before .limit-fits .ensures)
 
 pub set-up-fit-spec : {M : Type 1} → statement M
-set-up-fit-spec = tie.close (tie.spec fram-fits-requires limit-fits-requires lengths-fit-requires returns)
+set-up-fit-spec = tie.close (tie.spec frams-fit-requires limit-fits-requires lengths-fit-requires returns)

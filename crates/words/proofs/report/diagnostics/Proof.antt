@@ -17,14 +17,14 @@ loop-holds c = tt
 slice-aggregate-numbered : tie.Need-slice-aggregate-numbered Inv-loop μ-loop
 slice-aggregate-numbered c = search needs
 
-mul-wide : tie.Need-mul-wide Inv-loop μ-loop
-mul-wide c = search needs
+mul-moved : tie.Need-mul-moved Inv-loop μ-loop
+mul-moved c = search needs
 
-element-copy-out-wide : tie.Need-element-copy-out-wide Inv-loop μ-loop
-element-copy-out-wide c = search needs
+element-copy-out-moved : tie.Need-element-copy-out-moved Inv-loop μ-loop
+element-copy-out-moved c = search needs
 
-wide-requires : tie.Need-wide-requires Inv-loop μ-loop
-wide-requires c κs = search needs
+moved-requires : tie.Need-moved-requires Inv-loop μ-loop
+moved-requires c κs = search needs
 
 numbered-requires : tie.Need-numbered-requires Inv-loop μ-loop
 numbered-requires c κs = search needs
@@ -49,9 +49,9 @@ diagnostics-spec =
     μ-loop
     loop-holds
     slice-aggregate-numbered
-    mul-wide
-    element-copy-out-wide
-    wide-requires
+    mul-moved
+    element-copy-out-moved
+    moved-requires
     numbered-requires
     add-i
     loop-less
