@@ -9,11 +9,12 @@
 enum { ROOM = 1028, EDAC = 1536, FRAM = 262144, BLOCK = 256, DIAGNOSTICS = 31 };
 
 uint16_t command_fresh(const uint8_t *bytes, size_t n);
-size_t command_done(uint8_t code, const uint8_t *field, size_t n, uint8_t *edac, size_t edac_n, uint8_t *fram, size_t fram_n,
-                    uint16_t *sums, size_t blocks, const uint32_t *diagnostics, size_t values, uint8_t *reply, size_t room);
+size_t command_done(uint8_t code, const uint8_t *field, size_t n, uint8_t *edac, size_t edac_n, uint8_t *bootloader,
+                    size_t bootloader_n, uint16_t *bootloader_sums, size_t bootloader_blocks, uint8_t *fram, size_t fram_n,
+                    uint16_t *sums, size_t blocks, uint32_t *diagnostics, size_t values, uint8_t *reply, size_t room);
 
-static uint8_t edac[EDAC], fram[FRAM], field[ROOM], reply[ROOM];
-static uint16_t sums[FRAM / BLOCK];
+static uint8_t edac[EDAC], bootloader[BLOCK], fram[FRAM], field[ROOM], reply[ROOM];
+static uint16_t bootloader_sums[1], sums[FRAM / BLOCK];
 static uint32_t diagnostics[DIAGNOSTICS];
 static size_t size;
 
@@ -56,8 +57,8 @@ static void add_ranges(int ranges, unsigned count) {
 }
 
 static int done(unsigned code, size_t meant) {
-    const size_t got = command_done((uint8_t)code, field, size, edac, EDAC, fram, FRAM, sums, FRAM / BLOCK, diagnostics,
-                                    DIAGNOSTICS, reply, ROOM);
+    const size_t got = command_done((uint8_t)code, field, size, edac, EDAC, bootloader, BLOCK, bootloader_sums, 1, fram, FRAM,
+                                    sums, FRAM / BLOCK, diagnostics, DIAGNOSTICS, reply, ROOM);
     printf("%zu\n", got);
     return got != meant;
 }

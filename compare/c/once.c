@@ -1,7 +1,7 @@
-/* One call of the C face, for an instruction count: `once crc LENGTH` over zeros, `once join LENGTH`, `once set_up FRAM`,
-   `once last CODE`, the FEND after the dearest message known of that command, `once ask 8` and `once write 8`, the list of that
-   message judged and stored; and LENGTH calls: `once step LENGTH`, of ordinary bytes in a run. It fails where an answer is not
-   the one that is due. */
+/* One call of the C face, for an instruction count: `once crc LENGTH` over zeros, `once join LENGTH`, `once set_up LENGTH` with
+   so much user FRAM and the least bootloader FRAM, `once both LENGTH` with so much of each, `once last CODE`, the FEND after the
+   dearest message known of that command, `once ask 8` and `once write 8`, the list of that message judged and stored; and LENGTH
+   calls: `once step LENGTH`, of ordinary bytes in a run. It fails where an answer is not the one that is due. */
 #include "wheel.h"
 
 #include <stdio.h>
@@ -65,42 +65,42 @@ int main(int count, char **words) {
         static uint8_t edac[WHEEL_EDAC];
         return wheel_store_list(WHEEL_LIMIT_MOST, edac, WHEEL_EDAC, bytes, dear(number, bytes)) != WHEEL_TAKEN;
     } else if (number <= WHEEL_FRAM_MOST) {
-        static uint8_t edac[WHEEL_EDAC], fram[WHEEL_FRAM_MOST], message[WHEEL_MESSAGE], reply[WHEEL_REPLY];
-        static uint16_t sums[WHEEL_FRAM_MOST / WHEEL_FRAM_BLOCK];
-        static uint32_t diagnostics[WHEEL_DIAGNOSTICS];
-        struct wheel_unit unit = {WHEEL_FRAM_LEAST, 0, WHEEL_LIMIT_MOST, 0x41, WHEEL_BOOTLOADER, WHEEL_RUN};
-        if (strcmp(words[1], "set_up") == 0) {
-            return wheel_set_up(0x41, WHEEL_LIMIT_MOST, edac, WHEEL_EDAC, fram, number, sums, number / WHEEL_FRAM_BLOCK,
-                                diagnostics, WHEEL_DIAGNOSTICS, message, WHEEL_MESSAGE, reply, WHEEL_REPLY)
-                       .answer != WHEEL_TAKEN;
+        static uint8_t edac[WHEEL_EDAC], bootloader[WHEEL_FRAM_MOST], user[WHEEL_FRAM_MOST];
+        static uint16_t bootloader_sums[WHEEL_FRAM_MOST / WHEEL_FRAM_BLOCK], user_sums[WHEEL_FRAM_MOST / WHEEL_FRAM_BLOCK];
+        static struct wheel wheel = {.edac = edac,
+                                     .bootloader = {bootloader, WHEEL_FRAM_LEAST, bootloader_sums},
+                                     .fram = {user, WHEEL_FRAM_LEAST, user_sums}};
+        const struct wheel_unit unit = {
+            WHEEL_FRAM_LEAST, WHEEL_FRAM_LEAST, 0, WHEEL_LIMIT_MOST, 0x41, WHEEL_BOOTLOADER, WHEEL_RUN, WHEEL_UNLOCKED};
+        wheel.now.unit = unit;
+        if (strcmp(words[1], "set_up") == 0 || strcmp(words[1], "both") == 0) {
+            wheel.fram.length = number;
+            wheel.bootloader.length = words[1][0] == 'b' ? number : WHEEL_FRAM_LEAST;
+            return wheel_begin(&wheel, 0x41, WHEEL_LIMIT_MOST, WHEEL_UNLOCKED) != WHEEL_TAKEN;
         }
         if (strcmp(words[1], "last") == 0) {
+            uint8_t *message = wheel.message;
             const size_t end = 3 + dear(number, message + 3);
             message[0] = 0x41;
             message[2] = (uint8_t)(0x80 + number);
             message[end + 1] = (uint8_t)(crc(message, end) >> 8);
             message[end] = (uint8_t)crc(message, end);
             memset(edac, 0xC0, WHEEL_EDAC);
-            unit.fram_len = WHEEL_FRAM_MOST;
-            unit.mode = WHEEL_APPLICATION;
-            unit.count = end + 2;
-            return wheel_step(unit, 0xC0, edac, WHEEL_EDAC, fram, WHEEL_FRAM_MOST, sums, WHEEL_FRAM_MOST / WHEEL_FRAM_BLOCK,
-                              diagnostics, WHEEL_DIAGNOSTICS, message, WHEEL_MESSAGE, reply, WHEEL_REPLY)
-                       .answer != WHEEL_ACKED;
+            wheel.fram.length = WHEEL_FRAM_MOST;
+            wheel.now.unit.fram_len = WHEEL_FRAM_MOST;
+            wheel.now.unit.mode = WHEEL_APPLICATION;
+            wheel.now.unit.count = end + 2;
+            return wheel_byte(&wheel, 0xC0) != WHEEL_ACKED;
         }
         if (strcmp(words[1], "step") != 0) {
             return 1;
         }
         for (unsigned long i = 0; i < number; i++) {
-            const struct wheel_stepped now =
-                wheel_step(unit, 0x41, edac, WHEEL_EDAC, fram, WHEEL_FRAM_LEAST, sums, 1, diagnostics, WHEEL_DIAGNOSTICS,
-                           message, WHEEL_MESSAGE, reply, WHEEL_REPLY);
-            if (now.answer != WHEEL_TAKEN) {
+            if (wheel_byte(&wheel, 0x41) != WHEEL_TAKEN) {
                 return 1;
             }
-            unit = now.unit;
         }
-        return unit.count != number;
+        return wheel.now.unit.count != number;
     } else {
         return 1;
     }

@@ -3,27 +3,25 @@
 
 #include <stdio.h>
 
-#define FRAM 65536u
-
-static uint8_t edac[WHEEL_EDAC], fram[FRAM], message[WHEEL_MESSAGE], reply[WHEEL_REPLY];
-static uint16_t sums[FRAM / WHEEL_FRAM_BLOCK];
-static uint32_t diagnostics[WHEEL_DIAGNOSTICS];
+static uint8_t edac[WHEEL_EDAC], bootloader[65536], user[65536];
+static uint16_t bootloader_sums[sizeof bootloader / WHEEL_FRAM_BLOCK], user_sums[sizeof user / WHEEL_FRAM_BLOCK];
+static struct wheel wheel = {.edac = edac,
+                             .bootloader = {bootloader, sizeof bootloader, bootloader_sums},
+                             .fram = {user, sizeof user, user_sums}};
 
 int main(void) {
     static const uint8_t ping[] = {0xC0, 0x41, 0x11, 0x80, 0xD8, 0x6D, 0xC0};
-    struct wheel_stepped now =
-        wheel_set_up(0x41, WHEEL_LIMIT_MOST, edac, WHEEL_EDAC, fram, FRAM, sums, FRAM / WHEEL_FRAM_BLOCK, diagnostics,
-                     WHEEL_DIAGNOSTICS, message, WHEEL_MESSAGE, reply, WHEEL_REPLY);
-    if (now.answer != WHEEL_TAKEN) {
-        fprintf(stderr, "set-up refused: %u\n", (unsigned)now.answer);
+    if (wheel_begin(&wheel, 0x41, WHEEL_LIMIT_MOST, WHEEL_UNLOCKED) != WHEEL_TAKEN) {
+        fprintf(stderr, "set-up refused: %u\n", (unsigned)wheel.now.answer);
         return 1;
     }
     for (size_t i = 0; i < sizeof ping; i++) {
-        now = wheel_step(now.unit, ping[i], edac, WHEEL_EDAC, fram, FRAM, sums, FRAM / WHEEL_FRAM_BLOCK, diagnostics,
-                         WHEEL_DIAGNOSTICS, message, WHEEL_MESSAGE, reply, WHEEL_REPLY);
-        for (uint64_t k = 0; k < now.sent; k++) {
-            printf("%02X%s", (unsigned)reply[k], k + 1 < now.sent ? " " : "\n");
+        wheel_byte(&wheel, ping[i]);
+        size_t length;
+        const uint8_t *reply = wheel_reply(&wheel, &length);
+        for (size_t k = 0; k < length; k++) {
+            printf("%02X%s", (unsigned)reply[k], k + 1 < length ? " " : "\n");
         }
     }
-    return now.answer != WHEEL_ACKED;
+    return wheel.now.answer != WHEEL_ACKED;
 }

@@ -5,12 +5,14 @@
 #include <stdio.h>
 #include <string.h>
 
+#define BOOT 768u
 #define FRAM 512u
+#define BOOT_SUMS (BOOT / WHEEL_FRAM_BLOCK)
 #define SUMS (FRAM / WHEEL_FRAM_BLOCK)
 
 struct lent {
-    uint8_t edac[WHEEL_EDAC], fram[FRAM], message[WHEEL_MESSAGE], reply[WHEEL_REPLY];
-    uint16_t sums[SUMS];
+    uint8_t edac[WHEEL_EDAC], bootloader[BOOT], fram[FRAM], message[WHEEL_MESSAGE], reply[WHEEL_REPLY];
+    uint16_t bootloader_sums[BOOT_SUMS], sums[SUMS];
     uint32_t diagnostics[WHEEL_DIAGNOSTICS];
 };
 
@@ -26,28 +28,36 @@ static void same(const char *name, unsigned long long came, unsigned long long d
 
 /* The lengths that are lent, one of which a test makes wrong. */
 struct lengths {
-    size_t edac, fram, sums, diagnostics, message, reply;
+    size_t edac, bootloader, bootloader_sums, fram, sums, diagnostics, message, reply;
 };
 
-static const struct lengths right = {WHEEL_EDAC, FRAM, SUMS, WHEEL_DIAGNOSTICS, WHEEL_MESSAGE, WHEEL_REPLY};
+static const struct lengths right = {WHEEL_EDAC, BOOT, BOOT_SUMS, FRAM, SUMS, WHEEL_DIAGNOSTICS, WHEEL_MESSAGE, WHEEL_REPLY};
 
 static struct wheel_stepped step(struct wheel_unit unit, uint8_t byte, struct lengths n) {
-    return wheel_step(unit, byte, lent.edac, n.edac, lent.fram, n.fram, lent.sums, n.sums, lent.diagnostics, n.diagnostics,
-                      lent.message, n.message, lent.reply, n.reply);
+    return wheel_step(unit, byte, lent.edac, n.edac, lent.bootloader, n.bootloader, lent.bootloader_sums, n.bootloader_sums,
+                      lent.fram, n.fram, lent.sums, n.sums, lent.diagnostics, n.diagnostics, lent.message, n.message,
+                      lent.reply, n.reply);
+}
+
+static struct wheel_stepped set_up_as(uint8_t address, uint64_t limit, uint8_t locked, struct lengths n) {
+    return wheel_set_up(address, limit, locked, lent.edac, n.edac, lent.bootloader, n.bootloader, lent.bootloader_sums,
+                        n.bootloader_sums, lent.fram, n.fram, lent.sums, n.sums, lent.diagnostics, n.diagnostics, lent.message,
+                        n.message, lent.reply, n.reply);
 }
 
 static struct wheel_stepped set_up(uint8_t address, uint64_t limit, struct lengths n) {
-    return wheel_set_up(address, limit, lent.edac, n.edac, lent.fram, n.fram, lent.sums, n.sums, lent.diagnostics,
-                        n.diagnostics, lent.message, n.message, lent.reply, n.reply);
+    return set_up_as(address, limit, WHEEL_UNLOCKED, n);
 }
 
 static void same_unit(const char *name, struct wheel_unit came, struct wheel_unit due) {
+    same(name, came.bootloader_len, due.bootloader_len);
     same(name, came.fram_len, due.fram_len);
     same(name, came.count, due.count);
     same(name, came.limit, due.limit);
     same(name, came.address, due.address);
     same(name, came.mode, due.mode);
     same(name, came.place, due.place);
+    same(name, came.locked, due.locked);
 }
 
 static void refused(const char *name, struct wheel_stepped came, unsigned answer, struct wheel_unit due) {
@@ -57,6 +67,9 @@ static void refused(const char *name, struct wheel_stepped came, unsigned answer
     same(name, (unsigned long long)memcmp(&lent, &before, sizeof lent), 0);
 }
 
+/* The record of a refused set-up. */
+static const struct wheel_unit nobody = {0, 0, 0, 0, 0, 0, 0, 0};
+
 /* Limits that no unit has, with all their bits: only the first NARROW of them fit in a record. */
 enum { NARROW = 6, NO_LIMITS = 10 };
 static const uint64_t no_limits[NO_LIMITS] = {
@@ -65,7 +78,6 @@ static const uint64_t no_limits[NO_LIMITS] = {
 /* The limit at set-up and in a record: every right one goes in and comes out, and no other is taken. `fresh` is a unit that was
  * set up with the highest. */
 static void limits(struct wheel_unit fresh) {
-    const struct wheel_unit nobody = {0, 0, 0, 0, 0, 0};
     for (size_t i = 0; i < NO_LIMITS; i++) {
         refused("set-up 29", set_up(0x41, no_limits[i], right), WHEEL_BAD_LIMIT, nobody);
         struct lengths n = right;
@@ -91,7 +103,7 @@ static void limits(struct wheel_unit fresh) {
         refused("a limit kept", step(unit, 0x55, right), WHEEL_TAKEN, unit);
     }
     /* The count that makes a run too long, and what no unit of this limit counts to. */
-    const struct wheel_unit after = {FRAM, 0, 300, 0x41, WHEEL_APPLICATION, WHEEL_RUN};
+    const struct wheel_unit after = {BOOT, FRAM, 0, 300, 0x41, WHEEL_APPLICATION, WHEEL_RUN, WHEEL_UNLOCKED};
     struct wheel_unit run = after;
     run.count = 305;
     before.diagnostics[10]++;
@@ -105,6 +117,67 @@ static void limits(struct wheel_unit fresh) {
     refused("1,034 stay under 300", step(run, 0x55, right), WHEEL_TAKEN, run);
     before.diagnostics[9]++;
     refused("1,034 bytes under 300", step(run, 0xC0, right), WHEEL_OVERSIZE, after);
+}
+
+/* Writes the low byte of the FRAM status, as a set-up is to leave it. */
+static void status(uint32_t byte) {
+    before.diagnostics[WHEEL_FRAM_STATUS] = (before.diagnostics[WHEEL_FRAM_STATUS] & ~(uint32_t)0xFF) | byte;
+}
+
+/* The lock at set-up and in a record: every byte goes in, and comes out as 0 or 1, whatever the diagnostic shows. `fresh` is a unit
+ * that was set up unlocked. */
+static void locks(struct wheel_unit fresh) {
+    for (unsigned locked = 0; locked < 256; locked++) {
+        struct wheel_unit due = fresh, unit = fresh;
+        due.locked = locked == 0 ? WHEEL_UNLOCKED : WHEEL_LOCKED;
+        unit.locked = (uint8_t)locked;
+        refused("a record's lock", step(unit, 0x55, right), WHEEL_TAKEN, due);
+        struct lengths n = right;
+        n.diagnostics--;
+        refused("a refused record's lock", step(unit, 0x55, n), WHEEL_BAD_DIAGNOSTICS, due);
+        refused("a lock and a refused set-up", set_up_as(0x41, WHEEL_LIMIT_MOST, unit.locked, n), WHEEL_BAD_DIAGNOSTICS, nobody);
+        refused("a lock and no limit", set_up_as(0x41, 0, unit.locked, right), WHEEL_BAD_LIMIT, nobody);
+        before.diagnostics[WHEEL_FRAM_STATUS] = lent.diagnostics[WHEEL_FRAM_STATUS] = 0xFFFFFFFFu - 0x01010101u * locked;
+        status(locked == 0 ? WHEEL_STATUS_UNLOCKED : WHEEL_STATUS_LOCKED);
+        refused("a lock set up", set_up_as(0x41, WHEEL_LIMIT_MOST, unit.locked, right), WHEEL_TAKEN, due);
+    }
+    status(WHEEL_STATUS_UNLOCKED);
+    refused("unlocked by set-up", set_up(0x41, WHEEL_LIMIT_MOST, right), WHEEL_TAKEN, fresh);
+}
+
+/* Both FRAMs: what is wrong with either, in what is lent and in the record. `fits` is a unit that takes a byte. */
+static void frams(struct wheel_unit fits) {
+    struct lengths n = right;
+    for (unsigned wrong = 1; wrong < 4; wrong++) {
+        n = right;
+        n.bootloader -= wrong & 1;
+        n.fram -= wrong >> 1;
+        refused("set-up 22", set_up(0x41, WHEEL_LIMIT_MOST, n), WHEEL_BAD_FRAM, nobody);
+        refused("step 22", step(fits, 0xC0, n), WHEEL_BAD_FRAM, fits);
+        n = right;
+        n.bootloader_sums -= wrong & 1;
+        n.sums -= wrong >> 1;
+        refused("set-up 23", set_up(0x41, WHEEL_LIMIT_MOST, n), WHEEL_BAD_SUMS, nobody);
+        refused("step 23", step(fits, 0xC0, n), WHEEL_BAD_SUMS, fits);
+    }
+    n = right, n.bootloader = 0, n.bootloader_sums = 0;
+    refused("set-up with no bootloader FRAM", set_up(0x41, WHEEL_LIMIT_MOST, n), WHEEL_BAD_FRAM, nobody);
+    n = right, n.fram = 0, n.sums = 0;
+    refused("set-up with no user FRAM", set_up(0x41, WHEEL_LIMIT_MOST, n), WHEEL_BAD_FRAM, nobody);
+    n = right, n.bootloader_sums--, n.fram--;
+    refused("set-up 22 of user FRAM before 23", set_up(0x41, WHEEL_LIMIT_MOST, n), WHEEL_BAD_FRAM, nobody);
+    refused("step 22 of user FRAM before 23", step(fits, 0xC0, n), WHEEL_BAD_FRAM, fits);
+    n = right, n.bootloader -= WHEEL_FRAM_BLOCK, n.bootloader_sums--;
+    refused("another bootloader FRAM", step(fits, 0xC0, n), WHEEL_BAD_FRAM, fits);
+    n = right, n.fram -= WHEEL_FRAM_BLOCK, n.sums--;
+    refused("another user FRAM", step(fits, 0xC0, n), WHEEL_BAD_FRAM, fits);
+    struct wheel_unit unit = fits;
+    unit.bootloader_len = FRAM, unit.fram_len = BOOT;
+    refused("the FRAMs exchanged", step(unit, 0xC0, right), WHEEL_BAD_FRAM, unit);
+    unit = fits, unit.bootloader_len += (uint64_t)1 << 32;
+    refused("a wide length of bootloader FRAM", step(unit, 0xC0, right), WHEEL_BAD_FRAM, unit);
+    unit = fits, unit.fram_len += (uint64_t)1 << 32;
+    refused("a wide length of user FRAM", step(unit, 0xC0, right), WHEEL_BAD_FRAM, unit);
 }
 
 /* A list of files: a limit with all its bits, each refusal, and what is stored. */
@@ -133,6 +206,8 @@ int main(void) {
         ((uint8_t *)&lent)[i] = (uint8_t)(i * 7 + i / 251);
     }
     before = lent;
+    same("size of a record", sizeof(struct wheel_unit), 32);
+    same("size of what a call gives back", sizeof(struct wheel_stepped), 48);
 
     /* A refused call hands the record back: every field, with all bits of the wide ones. */
     const uint64_t wide[] = {0, 1, 0x0123456789ABCDEFu, 0xFEDCBA9876543210u, 0xFFFFFFFFFFFFFFFFu};
@@ -141,48 +216,49 @@ int main(void) {
         for (size_t k = 0; k < 5; k++) {
             for (unsigned n = 0; n < 256; n++) {
                 const uint16_t limit = half[n % 5];
-                const struct wheel_unit unit = {wide[i], wide[k], limit, 0xC0, (uint8_t)n, (uint8_t)(255 - n)};
+                const uint64_t length = wide[n / 5 % 5];
+                const uint8_t locked = (uint8_t)(n + 128);
+                const struct wheel_unit unit = {length, wide[i], wide[k], limit, 0xC0, (uint8_t)n, (uint8_t)(255 - n), locked};
                 const uint8_t mode = n == 0 ? 0 : 1, place = 255 - n > 3 ? 3 : (uint8_t)(255 - n);
-                const struct wheel_unit due = {wide[i], wide[k], limit, 0xC0, mode, place};
+                const struct wheel_unit due = {length, wide[i], wide[k], limit, 0xC0, mode, place, locked == 0 ? 0 : 1};
                 refused("a record", step(unit, (uint8_t)n, right), WHEEL_BAD_ADDRESS, due);
             }
         }
     }
     for (unsigned address = 0; address < 256; address++) {
-        const struct wheel_unit unit = {0x1122334455667788u, 5, 0xFEDC, (uint8_t)address, 1, 2};
+        const struct wheel_unit unit = {0x8877665544332211u, 0x1122334455667788u, 5, 0xFEDC, (uint8_t)address, 1, 2, 1};
         const int no = address == 0x00 || address == 0xC0 || address == 0xDB;
         refused("an address", step(unit, 0, right), no ? WHEEL_BAD_ADDRESS : WHEEL_BAD_FRAM, unit);
     }
 
-    /* Set-up: its refusals, and then its record and sums. */
-    const struct wheel_unit nobody = {0, 0, 0, 0, 0, 0};
+    /* Set-up: its refusals, and then its record, its sums and the status that it writes. */
     refused("set-up 20", set_up(0xDB, WHEEL_LIMIT_MOST, right), WHEEL_BAD_ADDRESS, nobody);
     struct lengths n = right;
     n.edac--;
     refused("set-up 21", set_up(0x41, WHEEL_LIMIT_MOST, n), WHEEL_BAD_EDAC, nobody);
-    n = right, n.fram--;
-    refused("set-up 22", set_up(0x41, WHEEL_LIMIT_MOST, n), WHEEL_BAD_FRAM, nobody);
-    n = right, n.sums--;
-    refused("set-up 23", set_up(0x41, WHEEL_LIMIT_MOST, n), WHEEL_BAD_SUMS, nobody);
     n = right, n.diagnostics--;
     refused("set-up 24", set_up(0x41, WHEEL_LIMIT_MOST, n), WHEEL_BAD_DIAGNOSTICS, nobody);
     n = right, n.message--;
     refused("set-up 25", set_up(0x41, WHEEL_LIMIT_MOST, n), WHEEL_BAD_BUFFERS, nobody);
     n = right, n.reply--;
     refused("set-up 25", set_up(0x41, WHEEL_LIMIT_MOST, n), WHEEL_BAD_BUFFERS, nobody);
-    const struct wheel_unit fresh = {FRAM, 0, WHEEL_LIMIT_MOST, 0x41, WHEEL_BOOTLOADER, WHEEL_FRESH};
+    const struct wheel_unit fresh = {BOOT, FRAM, 0, WHEEL_LIMIT_MOST, 0x41, WHEEL_BOOTLOADER, WHEEL_FRESH, WHEEL_UNLOCKED};
     struct wheel_stepped now = set_up(0x41, WHEEL_LIMIT_MOST, right);
+    for (size_t block = 0; block < BOOT_SUMS; block++) {
+        before.bootloader_sums[block] = wheel_crc(before.bootloader + block * WHEEL_FRAM_BLOCK, WHEEL_FRAM_BLOCK);
+    }
     for (size_t block = 0; block < SUMS; block++) {
         before.sums[block] = wheel_crc(before.fram + block * WHEEL_FRAM_BLOCK, WHEEL_FRAM_BLOCK);
     }
+    status(WHEEL_STATUS_UNLOCKED);
     refused("set up", now, WHEEL_TAKEN, fresh);
+    locks(fresh);
 
     /* A byte: its refusals, and each place. */
-    const struct wheel_unit fits = {FRAM, 1034, WHEEL_LIMIT_MOST, 0x41, WHEEL_APPLICATION, WHEEL_RUN};
+    const struct wheel_unit fits = {BOOT, FRAM, 1034, WHEEL_LIMIT_MOST, 0x41, WHEEL_APPLICATION, WHEEL_RUN, WHEEL_LOCKED};
     n = right, n.edac--;
     refused("step 21", step(fits, 0xC0, n), WHEEL_BAD_EDAC, fits);
-    n = right, n.sums--;
-    refused("step 23", step(fits, 0xC0, n), WHEEL_BAD_SUMS, fits);
+    frams(fits);
     n = right, n.diagnostics--;
     refused("step 24", step(fits, 0xC0, n), WHEEL_BAD_DIAGNOSTICS, fits);
     n = right, n.message--;

@@ -13,10 +13,11 @@ enum { INIT = 0x01, WRITE_FILE = 0x08, WRITE_EDAC = 0x0A };
 enum { FILES = 256, FILE_BYTES = 4, MODE = 0x5C3 };
 enum { MOST = 6 }; /* bytes of data: file 0's address, mode byte and four bytes */
 
-static uint8_t edac[WHEEL_EDAC], fram[WHEEL_FRAM_LEAST], message[WHEEL_MESSAGE], reply[WHEEL_REPLY];
-static uint16_t sums[1];
-static uint32_t diagnostics[WHEEL_DIAGNOSTICS];
-static struct wheel_stepped now;
+static uint8_t edac[WHEEL_EDAC], bootloader[WHEEL_FRAM_LEAST], user[WHEEL_FRAM_LEAST];
+static uint16_t bootloader_sums[1], user_sums[1];
+static struct wheel wheel = {.edac = edac,
+                             .bootloader = {bootloader, sizeof bootloader, bootloader_sums},
+                             .fram = {user, sizeof user, user_sums}};
 
 /* The code and the address or file that are being tried, for a BAD line. */
 static unsigned trying, trying_at;
@@ -45,17 +46,17 @@ static void ask(unsigned code, const uint8_t *data, size_t length) {
     static uint8_t line[WHEEL_REPLY];
     const size_t size = packed(WHEEL, HOST, POLL | code, data, length, line);
     for (size_t i = 0; i < size; i++) {
-        now = wheel_step(now.unit, line[i], edac, WHEEL_EDAC, fram, WHEEL_FRAM_LEAST, sums, 1, diagnostics,
-                         WHEEL_DIAGNOSTICS, message, WHEEL_MESSAGE, reply, WHEEL_REPLY);
-        same("answer", now.answer, i + 1 < size ? WHEEL_TAKEN : WHEEL_ACKED);
+        same("answer", wheel_byte(&wheel, line[i]), i + 1 < size ? WHEEL_TAKEN : WHEEL_ACKED);
     }
 }
 
 /* The reply that was just given must be an ACK with this data. */
 static void replied(unsigned code, const uint8_t *data, size_t length) {
     static uint8_t due[WHEEL_REPLY];
-    same("length of the reply", now.sent, packed(HOST, WHEEL, POLL | ACK | code, data, length, due));
-    for (size_t i = 0; i < now.sent; i++) {
+    size_t sent;
+    const uint8_t *reply = wheel_reply(&wheel, &sent);
+    same("length of the reply", sent, packed(HOST, WHEEL, POLL | ACK | code, data, length, due));
+    for (size_t i = 0; i < sent; i++) {
         same("byte of the reply", reply[i], due[i]);
     }
 }
@@ -100,12 +101,10 @@ static void try_places(unsigned code, const uint8_t *head, size_t heads, const s
 int main(void) {
     static const uint8_t application[4] = {0x00, 0x00, 0x05, 0x20};
     static char by_edac[WHEEL_EDAC + 1], by_file[WHEEL_EDAC + 1];
-    now = wheel_set_up(WHEEL, WHEEL_LIMIT_MOST, edac, WHEEL_EDAC, fram, WHEEL_FRAM_LEAST, sums, 1, diagnostics,
-                       WHEEL_DIAGNOSTICS, message, WHEEL_MESSAGE, reply, WHEEL_REPLY);
-    same("set-up", now.answer, WHEEL_TAKEN);
+    same("set-up", wheel_begin(&wheel, WHEEL, WHEEL_LIMIT_MOST, WHEEL_UNLOCKED), WHEEL_TAKEN);
     trying = INIT;
     ask(INIT, application, sizeof application);
-    same("mode", now.unit.mode, WHEEL_APPLICATION);
+    same("mode", wheel.now.unit.mode, WHEEL_APPLICATION);
     trying = WRITE_EDAC;
     for (size_t at = 0; at < WHEEL_EDAC; at++) {
         const uint8_t head[2] = {(uint8_t)at, (uint8_t)(at >> 8)};

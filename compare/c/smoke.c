@@ -1,14 +1,18 @@
 /* The C face, linked and called as firmware does it: some vectors of 01, the joining of every cut of a text, a unit on which the
-   line writes SPEED in vain, a unit of the least limit, and lists of files judged and stored with no unit at hand. */
+   line writes SPEED in vain, a unit of the least limit, bootloader FRAM written, read and locked, and lists of files judged and
+   stored with no unit at hand. */
 #include "wheel.h"
 
 #include <stdio.h>
+#include <string.h>
 
 static int bad = 0;
 
-static uint8_t edac[WHEEL_EDAC], fram[WHEEL_FRAM_LEAST], message[WHEEL_MESSAGE], reply[WHEEL_REPLY];
-static uint16_t sums[1];
-static uint32_t diagnostics[WHEEL_DIAGNOSTICS];
+static uint8_t edac[WHEEL_EDAC], bootloader[2 * WHEEL_FRAM_BLOCK], user[WHEEL_FRAM_BLOCK];
+static uint16_t bootloader_sums[2], user_sums[1];
+static struct wheel wheel = {.edac = edac,
+                             .bootloader = {bootloader, sizeof bootloader, bootloader_sums},
+                             .fram = {user, sizeof user, user_sums}};
 
 static void same(const char *name, unsigned long came, unsigned long due) {
     if (came != due) {
@@ -17,18 +21,37 @@ static void same(const char *name, unsigned long came, unsigned long due) {
     }
 }
 
-static struct wheel_stepped set_up(uint64_t limit) {
-    return wheel_set_up(0x41, limit, edac, WHEEL_EDAC, fram, WHEEL_FRAM_LEAST, sums, 1, diagnostics, WHEEL_DIAGNOSTICS, message,
-                        WHEEL_MESSAGE, reply, WHEEL_REPLY);
+static unsigned set_up(uint64_t limit) { return wheel_begin(&wheel, 0x41, limit, WHEEL_UNLOCKED); }
+
+/* Bytes of the line, one after the other: the answer to the last. */
+static unsigned fed(const uint8_t *line, size_t length) {
+    for (size_t i = 0; i < length; i++) {
+        wheel_byte(&wheel, line[i]);
+    }
+    return wheel.now.answer;
 }
 
-/* Bytes of the line, one after the other. */
-static struct wheel_stepped fed(struct wheel_stepped now, const uint8_t *line, size_t length) {
-    for (size_t i = 0; i < length; i++) {
-        now = wheel_step(now.unit, line[i], edac, WHEEL_EDAC, fram, WHEEL_FRAM_LEAST, sums, 1, diagnostics,
-                         WHEEL_DIAGNOSTICS, message, WHEEL_MESSAGE, reply, WHEEL_REPLY);
-    }
-    return now;
+/* The answer to a command with this data. */
+static unsigned asked(unsigned code, const uint8_t *data, size_t length) {
+    static uint8_t bytes[WHEEL_MESSAGE], line[WHEEL_REPLY];
+    bytes[0] = 0x41;
+    bytes[1] = 0x11;
+    bytes[2] = (uint8_t)(0x80 + code);
+    memcpy(bytes + 3, data, length);
+    const uint16_t sum = wheel_crc(bytes, 3 + length);
+    bytes[3 + length] = (uint8_t)sum;
+    bytes[3 + length + 1] = (uint8_t)(sum >> 8);
+    const struct wheel_packed packed = wheel_pack(bytes, 3 + length + 2, line, WHEEL_REPLY);
+    same("packed", packed.answer, WHEEL_TAKEN);
+    return fed(line, packed.sent);
+}
+
+/* The data of the reply that was just given, which must have so many bytes, none of them escaped, must be these. */
+static void shown(const char *name, const uint8_t *data, size_t length) {
+    size_t sent;
+    const uint8_t *reply = wheel_reply(&wheel, &sent);
+    same(name, sent, 1 + 3 + length + 2 + 1);
+    same(name, (unsigned long)memcmp(reply + 4, data, length), 0);
 }
 
 /* 02, T-02: INIT to application mode, then WRITE FILE 15 01 02 03 04, to a wheel whose SPEED is 100.0. */
@@ -39,40 +62,78 @@ static void speed_is_read_only(void) {
     for (size_t i = 0; i < 4; i++) {
         edac[0x54 + i] = speed[i];
     }
-    same("SPEED written", fed(set_up(WHEEL_LIMIT_MOST), line, sizeof line).answer, WHEEL_ACKED);
-    same("SPEED's file", reply[4], 0x15);
+    same("set up", set_up(WHEEL_LIMIT_MOST), WHEEL_TAKEN);
+    same("SPEED written", fed(line, sizeof line), WHEEL_ACKED);
+    same("SPEED's file", wheel.reply[4], 0x15);
     for (size_t i = 0; i < 4; i++) {
         same("SPEED held", edac[0x54 + i], speed[i]);
-        same("SPEED shown", reply[5 + i], speed[i]);
+        same("SPEED shown", wheel.reply[5 + i], speed[i]);
     }
 }
 
-/* The answer to a PING with so many zeros as its data. */
-static unsigned pinged(struct wheel_stepped now, size_t length) {
-    static uint8_t ping[WHEEL_MESSAGE] = {0x41, 0x11, 0x80}, line[WHEEL_REPLY];
-    const uint16_t sum = wheel_crc(ping, 3 + length);
-    ping[3 + length] = (uint8_t)sum;
-    ping[3 + length + 1] = (uint8_t)(sum >> 8);
-    const struct wheel_packed packed = wheel_pack(ping, 3 + length + 2, line, WHEEL_REPLY);
-    same("PING packed", packed.answer, WHEEL_TAKEN);
-    ping[3 + length] = ping[3 + length + 1] = 0;
-    return fed(now, line, packed.sent).answer;
+/* The answer to a PING with so many zeros as its data, from a unit of this limit. */
+static unsigned pinged(uint64_t limit, size_t length) {
+    static const uint8_t zeros[WHEEL_LIMIT_MOST];
+    same("limit taken", set_up(limit), WHEEL_TAKEN);
+    same("limit kept", wheel.now.unit.limit, limit);
+    return asked(0x00, zeros, length);
 }
 
 /* 02, T-06: the limits that set-up takes, and the longest message under the least. */
 static void shorter_messages(void) {
-    same("limit 259", set_up(WHEEL_LIMIT_LEAST - 1).answer, WHEEL_BAD_LIMIT);
-    same("limit 1029", set_up(WHEEL_LIMIT_MOST + 1).answer, WHEEL_BAD_LIMIT);
-    const struct wheel_stepped most = set_up(WHEEL_LIMIT_MOST), least = set_up(WHEEL_LIMIT_LEAST);
-    same("limit 1028", most.answer, WHEEL_TAKEN);
-    same("limit 1028 kept", most.unit.limit, 1028);
-    same("limit 260", least.answer, WHEEL_TAKEN);
-    same("limit 260 kept", least.unit.limit, 260);
-    same("260 bytes under 260", pinged(least, 260), WHEEL_ACKED);
-    same("261 bytes under 260", pinged(least, 261), WHEEL_OVERSIZE);
-    same("261 bytes under 1028", pinged(most, 261), WHEEL_ACKED);
-    same("1028 bytes under 1028", pinged(most, 1028), WHEEL_ACKED);
-    same("oversize runs counted", diagnostics[0x09], 1);
+    same("limit 259", set_up(WHEEL_LIMIT_LEAST - 1), WHEEL_BAD_LIMIT);
+    same("limit 1029", set_up(WHEEL_LIMIT_MOST + 1), WHEEL_BAD_LIMIT);
+    same("a byte after a refused set-up", wheel_byte(&wheel, 0xC0), WHEEL_BAD_ADDRESS);
+    same("260 bytes under 260", pinged(WHEEL_LIMIT_LEAST, 260), WHEEL_ACKED);
+    same("261 bytes under 260", pinged(WHEEL_LIMIT_LEAST, 261), WHEEL_OVERSIZE);
+    same("261 bytes under 1028", pinged(WHEEL_LIMIT_MOST, 261), WHEEL_ACKED);
+    same("1028 bytes under 1028", pinged(WHEEL_LIMIT_MOST, 1028), WHEEL_ACKED);
+    same("oversize runs counted", wheel.diagnostics[0x09], 1);
+}
+
+/* 02, T-07: bootloader FRAM is written, read and locked; then it is read, and a POKE to it is echoed and stores nothing. */
+static void bootloader_fram(void) {
+    static const uint8_t poke[] = {0xFF, 0x00, 0x00, 0x20, 0x01, 0x02}, again[] = {0xFF, 0x00, 0x00, 0x20, 0x03, 0x04};
+    static const uint8_t users[] = {0xFF, 0x00, 0x04, 0x20, 0x05}, peek[] = {0xFF, 0x00, 0x00, 0x20, 0x02};
+    static const uint8_t lock[] = {0xEF, 0xBE, 0xAD, 0xDE}, application[] = {0x00, 0x00, 0x05, 0x20};
+    static const uint8_t border[] = {0xFF, 0xFF, 0x03, 0x20, 0x02}, past[] = {0xFF, 0xFF, 0x03, 0x20, 0x01};
+    const uint32_t above = 0xABCDEF00u;
+    wheel.diagnostics[WHEEL_FRAM_STATUS] = above;
+    same("set up unlocked", set_up(WHEEL_LIMIT_MOST), WHEEL_TAKEN);
+    same("unlocked", wheel.now.unit.locked, WHEEL_UNLOCKED);
+    same("shown unlocked", wheel.diagnostics[WHEEL_FRAM_STATUS], above | WHEEL_STATUS_UNLOCKED);
+    same("POKE", asked(0x03, poke, sizeof poke), WHEEL_ACKED);
+    shown("POKE echoed", poke, sizeof poke);
+    same("first byte poked", bootloader[0xFF], 0x01);
+    same("second byte poked", bootloader[0x100], 0x02);
+    same("POKE in user FRAM", asked(0x03, users, sizeof users), WHEEL_ACKED);
+    same("byte poked in user FRAM", user[0xFF], 0x05);
+    same("PEEK", asked(0x02, peek, sizeof peek), WHEEL_ACKED);
+    shown("PEEK shows", poke, sizeof poke);
+    same("a range over the border", asked(0x02, border, sizeof border), WHEEL_NACKED);
+    same("a byte not fitted", asked(0x02, past, sizeof past), WHEEL_UNFITTED);
+    same("INIT locks", asked(0x01, lock, sizeof lock), WHEEL_ACKED);
+    shown("INIT echoed", lock, sizeof lock);
+    same("locked", wheel.now.unit.locked, WHEEL_LOCKED);
+    same("shown locked", wheel.diagnostics[WHEEL_FRAM_STATUS], above | WHEEL_STATUS_LOCKED);
+    same("POKE when locked", asked(0x03, again, sizeof again), WHEEL_ACKED);
+    shown("POKE when locked echoed", again, sizeof again);
+    same("PEEK when locked", asked(0x02, peek, sizeof peek), WHEEL_ACKED);
+    shown("PEEK when locked shows", poke, sizeof poke);
+    same("INIT starts", asked(0x01, application, sizeof application), WHEEL_ACKED);
+    same("INIT of an application locks nothing", asked(0x01, lock, sizeof lock), WHEEL_NACKED);
+    same("locked still", wheel.now.unit.locked, WHEEL_LOCKED);
+    for (size_t block = 0; block < 2; block++) {
+        same("sum kept", bootloader_sums[block], wheel_crc(bootloader + block * WHEEL_FRAM_BLOCK, WHEEL_FRAM_BLOCK));
+    }
+    same("sum of user FRAM kept", user_sums[0], wheel_crc(user, sizeof user));
+    same("set up locked", wheel_begin(&wheel, 0x41, WHEEL_LIMIT_MOST, WHEEL_LOCKED), WHEEL_TAKEN);
+    same("locked from set-up on", wheel.now.unit.locked, WHEEL_LOCKED);
+    same("POKE when set up locked", asked(0x03, again, sizeof again), WHEEL_ACKED);
+    same("nothing stored", bootloader[0xFF], 0x01);
+    same("only set-up unlocks", set_up(WHEEL_LIMIT_MOST), WHEEL_TAKEN);
+    same("POKE when unlocked", asked(0x03, again, sizeof again), WHEEL_ACKED);
+    same("stored", bootloader[0xFF], 0x03);
 }
 
 /* 02, T-11: the lists of P11 and P12, in memory that holds zeros. */
@@ -117,6 +178,7 @@ int main(void) {
     same("refused length", refused.part.len, 0);
     speed_is_read_only();
     shorter_messages();
+    bootloader_fram();
     asked_before_writing();
     puts(bad ? "the C face: BAD" : "the C face: ok");
     return bad;
