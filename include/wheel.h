@@ -201,7 +201,7 @@ struct wheel_fram {
 struct wheel {
     uint8_t *edac; /* WHEEL_EDAC bytes */
     struct wheel_fram bootloader;
-    struct wheel_fram fram;   /* the user's */
+    struct wheel_fram user;
     struct wheel_stepped now; /* what the last call gave back: the record, how many bytes are to be sent, the number */
     uint32_t diagnostics[WHEEL_DIAGNOSTICS];
     uint8_t message[WHEEL_MESSAGE];
@@ -215,8 +215,8 @@ struct wheel {
 static inline uint8_t wheel_begin(struct wheel *wheel, uint8_t address, uint64_t limit, uint8_t locked) {
     wheel->now = wheel_set_up(address, limit, locked, wheel->edac, WHEEL_EDAC, wheel->bootloader.bytes,
                               wheel->bootloader.length, wheel->bootloader.sums, wheel->bootloader.length / WHEEL_FRAM_BLOCK,
-                              wheel->fram.bytes, wheel->fram.length, wheel->fram.sums,
-                              wheel->fram.length / WHEEL_FRAM_BLOCK, wheel->diagnostics, WHEEL_DIAGNOSTICS, wheel->message,
+                              wheel->user.bytes, wheel->user.length, wheel->user.sums,
+                              wheel->user.length / WHEEL_FRAM_BLOCK, wheel->diagnostics, WHEEL_DIAGNOSTICS, wheel->message,
                               WHEEL_MESSAGE, wheel->reply, WHEEL_REPLY);
     return wheel->now.answer;
 }
@@ -224,8 +224,8 @@ static inline uint8_t wheel_begin(struct wheel *wheel, uint8_t address, uint64_t
 /* One byte from the line, as wheel_step takes it: answers its number. */
 static inline uint8_t wheel_byte(struct wheel *wheel, uint8_t byte) {
     wheel->now = wheel_step(wheel->now.unit, byte, wheel->edac, WHEEL_EDAC, wheel->bootloader.bytes, wheel->bootloader.length,
-                            wheel->bootloader.sums, wheel->bootloader.length / WHEEL_FRAM_BLOCK, wheel->fram.bytes,
-                            wheel->fram.length, wheel->fram.sums, wheel->fram.length / WHEEL_FRAM_BLOCK, wheel->diagnostics,
+                            wheel->bootloader.sums, wheel->bootloader.length / WHEEL_FRAM_BLOCK, wheel->user.bytes,
+                            wheel->user.length, wheel->user.sums, wheel->user.length / WHEEL_FRAM_BLOCK, wheel->diagnostics,
                             WHEEL_DIAGNOSTICS, wheel->message, WHEEL_MESSAGE, wheel->reply, WHEEL_REPLY);
     return wheel->now.answer;
 }

@@ -69,12 +69,12 @@ int main(int count, char **words) {
         static uint16_t bootloader_sums[WHEEL_FRAM_MOST / WHEEL_FRAM_BLOCK], user_sums[WHEEL_FRAM_MOST / WHEEL_FRAM_BLOCK];
         static struct wheel wheel = {.edac = edac,
                                      .bootloader = {bootloader, WHEEL_FRAM_LEAST, bootloader_sums},
-                                     .fram = {user, WHEEL_FRAM_LEAST, user_sums}};
+                                     .user = {user, WHEEL_FRAM_LEAST, user_sums}};
         const struct wheel_unit unit = {
             WHEEL_FRAM_LEAST, WHEEL_FRAM_LEAST, 0, WHEEL_LIMIT_MOST, 0x41, WHEEL_BOOTLOADER, WHEEL_RUN, WHEEL_UNLOCKED};
         wheel.now.unit = unit;
         if (strcmp(words[1], "set_up") == 0 || strcmp(words[1], "both") == 0) {
-            wheel.fram.length = number;
+            wheel.user.length = number;
             wheel.bootloader.length = words[1][0] == 'b' ? number : WHEEL_FRAM_LEAST;
             return wheel_begin(&wheel, 0x41, WHEEL_LIMIT_MOST, WHEEL_UNLOCKED) != WHEEL_TAKEN;
         }
@@ -86,7 +86,7 @@ int main(int count, char **words) {
             message[end + 1] = (uint8_t)(crc(message, end) >> 8);
             message[end] = (uint8_t)crc(message, end);
             memset(edac, 0xC0, WHEEL_EDAC);
-            wheel.fram.length = WHEEL_FRAM_MOST;
+            wheel.user.length = WHEEL_FRAM_MOST;
             wheel.now.unit.fram_len = WHEEL_FRAM_MOST;
             wheel.now.unit.mode = WHEEL_APPLICATION;
             wheel.now.unit.count = end + 2;

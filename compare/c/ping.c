@@ -7,7 +7,7 @@ static uint8_t edac[WHEEL_EDAC], bootloader[65536], user[65536];
 static uint16_t bootloader_sums[sizeof bootloader / WHEEL_FRAM_BLOCK], user_sums[sizeof user / WHEEL_FRAM_BLOCK];
 static struct wheel wheel = {.edac = edac,
                              .bootloader = {bootloader, sizeof bootloader, bootloader_sums},
-                             .fram = {user, sizeof user, user_sums}};
+                             .user = {user, sizeof user, user_sums}};
 
 int main(void) {
     static const uint8_t ping[] = {0xC0, 0x41, 0x11, 0x80, 0xD8, 0x6D, 0xC0};

@@ -17,7 +17,7 @@ static uint8_t edac[WHEEL_EDAC], bootloader[WHEEL_FRAM_LEAST], user[WHEEL_FRAM_L
 static uint16_t bootloader_sums[1], user_sums[1];
 static struct wheel wheel = {.edac = edac,
                              .bootloader = {bootloader, sizeof bootloader, bootloader_sums},
-                             .fram = {user, sizeof user, user_sums}};
+                             .user = {user, sizeof user, user_sums}};
 
 /* The code and the address or file that are being tried, for a BAD line. */
 static unsigned trying, trying_at;

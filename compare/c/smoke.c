@@ -12,7 +12,7 @@ static uint8_t edac[WHEEL_EDAC], bootloader[2 * WHEEL_FRAM_BLOCK], user[WHEEL_FR
 static uint16_t bootloader_sums[2], user_sums[1];
 static struct wheel wheel = {.edac = edac,
                              .bootloader = {bootloader, sizeof bootloader, bootloader_sums},
-                             .fram = {user, sizeof user, user_sums}};
+                             .user = {user, sizeof user, user_sums}};
 
 static void same(const char *name, unsigned long came, unsigned long due) {
     if (came != due) {

@@ -8,7 +8,7 @@ static uint8_t edac[WHEEL_EDAC], bootloader[65536], user[65536], read[65536];
 static uint16_t bootloader_sums[sizeof bootloader / WHEEL_FRAM_BLOCK], user_sums[sizeof user / WHEEL_FRAM_BLOCK];
 static struct wheel wheel = {.edac = edac,
                              .bootloader = {bootloader, sizeof bootloader, bootloader_sums},
-                             .fram = {user, sizeof user, user_sums}};
+                             .user = {user, sizeof user, user_sums}};
 
 int main(void) {
     if (wheel_begin(&wheel, 0x41, WHEEL_LIMIT_MOST, WHEEL_UNLOCKED) != WHEEL_TAKEN) {

@@ -18,7 +18,7 @@ struct memories {
 static struct memories wholes, plains;
 static struct wheel whole = {.edac = wholes.edac,
                              .bootloader = {wholes.bootloader, 3 * WHEEL_FRAM_BLOCK, wholes.bootloader_sums},
-                             .fram = {wholes.user, 2 * WHEEL_FRAM_BLOCK, wholes.user_sums}};
+                             .user = {wholes.user, 2 * WHEEL_FRAM_BLOCK, wholes.user_sums}};
 static struct wheel_stepped plain;
 static uint32_t diagnostics[WHEEL_DIAGNOSTICS];
 static uint8_t message[WHEEL_MESSAGE], reply[WHEEL_REPLY];
@@ -64,7 +64,7 @@ static void compare(unsigned number) {
 }
 
 static void set_up(uint8_t address, uint64_t limit, uint8_t locked) {
-    const size_t boot = whole.bootloader.length, user = whole.fram.length;
+    const size_t boot = whole.bootloader.length, user = whole.user.length;
     plain = wheel_set_up(address, limit, locked, plains.edac, WHEEL_EDAC, plains.bootloader, boot, plains.bootloader_sums,
                          boot / WHEEL_FRAM_BLOCK, plains.user, user, plains.user_sums, user / WHEEL_FRAM_BLOCK, diagnostics,
                          WHEEL_DIAGNOSTICS, message, WHEEL_MESSAGE, reply, WHEEL_REPLY);
@@ -72,7 +72,7 @@ static void set_up(uint8_t address, uint64_t limit, uint8_t locked) {
 }
 
 static void feed(uint8_t byte) {
-    const size_t boot = whole.bootloader.length, user = whole.fram.length;
+    const size_t boot = whole.bootloader.length, user = whole.user.length;
     plain = wheel_step(plain.unit, byte, plains.edac, WHEEL_EDAC, plains.bootloader, boot, plains.bootloader_sums,
                        boot / WHEEL_FRAM_BLOCK, plains.user, user, plains.user_sums, user / WHEEL_FRAM_BLOCK, diagnostics,
                        WHEEL_DIAGNOSTICS, message, WHEEL_MESSAGE, reply, WHEEL_REPLY);
@@ -134,7 +134,7 @@ int main(void) {
     for (unsigned i = 0; i < MESSAGES; i++) {
         if (any(plain.unit.address ? 20 : 2) == 0) { /* soon after a set-up that was refused */
             whole.bootloader.length = (1 + any(BLOCKS)) * WHEEL_FRAM_BLOCK - (any(8) ? 0 : 1);
-            whole.fram.length = (1 + any(BLOCKS)) * WHEEL_FRAM_BLOCK - (any(8) ? 0 : 1);
+            whole.user.length = (1 + any(BLOCKS)) * WHEEL_FRAM_BLOCK - (any(8) ? 0 : 1);
             feed(0x55);
             set_up(any(8) ? 0x41 : 0xC0, any(8) ? 260 + any(769) : any(260), any(4) ? 0 : (uint8_t)any(256));
         }
