@@ -22,7 +22,8 @@ def said(pings, replies, written, failure=""):
     """What is due on standard error after so many pings."""
     lines = [failure] if failure else []
     lines += [f"answer 0: {5 * pings + 1}", f"answer 1: {pings}"] if pings else []
-    return "\n".join(lines + [f"replies written: {replies}", f"bytes written: {written}", ""])
+    lines += ["bootloader FRAM: unlocked", f"replies written: {replies}", f"bytes written: {written}", ""]
+    return "\n".join(lines)
 
 
 def same(name, came, due):
@@ -137,7 +138,7 @@ def directory():
 def helped():
     """The help waits for no input."""
     process = subprocess.run(wheel + ["--help"], stdin=pipe()[0], stdout=subprocess.PIPE, timeout=60)
-    same("the help's first line", process.stdout.split(b"\n")[0], b"usage: wheel [ADDRESS [FRAM [LIMIT]]]")
+    same("the help's first line", process.stdout.split(b"\n")[0], b"usage: wheel [ADDRESS [FRAM [LIMIT [BOOTLOADER [LOCK]]]]]")
 
 
 helped()
