@@ -24,7 +24,11 @@ pub enum Place {
 pub struct Record {
     pub address: u8,
     pub mode: Mode,
+    /// The lengths of bootloader FRAM and of user FRAM, as they were set up.
+    pub bootloader_len: usize,
     pub fram_len: usize,
+    /// Whether bootloader FRAM is locked (02, T-07), as C says it: 0 is unlocked, any other number locked, and handed back as 1.
+    pub locked: u8,
     /// The most data bytes of a message, as it was set up (02, T-06).
     pub limit: u16,
     pub place: Place,
@@ -35,7 +39,9 @@ pub struct Record {
 pub const REFUSED: Record = Record {
     address: 0,
     mode: Mode::Bootloader,
+    bootloader_len: 0,
     fram_len: 0,
+    locked: 0,
     limit: 0,
     place: Place::Fresh,
     count: 0,

@@ -8,12 +8,14 @@ use crate::Part;
 
 #[repr(C)]
 struct WheelUnit {
+    bootloader_len: u64,
     fram_len: u64,
     count: u64,
     limit: u16,
     address: u8,
     mode: u8,
     place: u8,
+    locked: u8,
 }
 
 #[repr(C)]
@@ -33,13 +35,18 @@ extern "C" {
     fn wheel_set_up(
         address: u8,
         limit: u64,
+        locked: u8,
         edac: *const u8,
         edac_len: usize,
+        bootloader: *const u8,
+        bootloader_len: usize,
+        bootloader_sums: *mut u16,
+        bootloader_sums_len: usize,
         fram: *const u8,
         fram_len: usize,
         sums: *mut u16,
         sums_len: usize,
-        diagnostics: *const u32,
+        diagnostics: *mut u32,
         diagnostics_len: usize,
         message: *const u8,
         message_len: usize,
@@ -52,6 +59,10 @@ extern "C" {
         byte: u8,
         edac: *mut u8,
         edac_len: usize,
+        bootloader: *mut u8,
+        bootloader_len: usize,
+        bootloader_sums: *mut u16,
+        bootloader_sums_len: usize,
         fram: *mut u8,
         fram_len: usize,
         sums: *mut u16,
@@ -85,6 +96,7 @@ extern "C" {
 impl From<Record> for WheelUnit {
     fn from(record: Record) -> WheelUnit {
         WheelUnit {
+            bootloader_len: record.bootloader_len as u64,
             fram_len: record.fram_len as u64,
             count: record.count as u64,
             limit: record.limit,
@@ -99,6 +111,7 @@ impl From<Record> for WheelUnit {
                 Place::Escape => 2,
                 Place::Fault => 3,
             },
+            locked: record.locked,
         }
     }
 }
@@ -113,7 +126,9 @@ impl From<WheelUnit> for Record {
                 1 => Mode::Application,
                 number => panic!("the face handed back mode {number}"),
             },
+            bootloader_len: length(unit.bootloader_len),
             fram_len: length(unit.fram_len),
+            locked: unit.locked,
             limit: unit.limit,
             place: match unit.place {
                 0 => Place::Fresh,
@@ -143,34 +158,29 @@ impl From<WheelStepped> for Stepped {
     }
 }
 
-/// Set-up, which changes nothing that is lent but the sums.
-#[allow(clippy::too_many_arguments)]
-pub fn set_up(
-    address: u8,
-    limit: u64,
-    edac: &[u8],
-    fram: &[u8],
-    sums: &mut [u16],
-    diagnostics: &[u32],
-    message: &[u8],
-    reply: &[u8],
-) -> Stepped {
+/// Set-up, which changes nothing that is lent but the sums and the low byte of diagnostic 0x06.
+pub fn set_up(address: u8, limit: u64, locked: u8, lent: Lent) -> Stepped {
     let stepped = unsafe {
         wheel_set_up(
             address,
             limit,
-            edac.as_ptr(),
-            edac.len(),
-            fram.as_ptr(),
-            fram.len(),
-            sums.as_mut_ptr(),
-            sums.len(),
-            diagnostics.as_ptr(),
-            diagnostics.len(),
-            message.as_ptr(),
-            message.len(),
-            reply.as_ptr(),
-            reply.len(),
+            locked,
+            lent.edac.as_ptr(),
+            lent.edac.len(),
+            lent.bootloader.bytes.as_ptr(),
+            lent.bootloader.bytes.len(),
+            lent.bootloader.sums.as_mut_ptr(),
+            lent.bootloader.sums.len(),
+            lent.user.bytes.as_ptr(),
+            lent.user.bytes.len(),
+            lent.user.sums.as_mut_ptr(),
+            lent.user.sums.len(),
+            lent.diagnostics.as_mut_ptr(),
+            lent.diagnostics.len(),
+            lent.message.as_ptr(),
+            lent.message.len(),
+            lent.reply.as_ptr(),
+            lent.reply.len(),
         )
     };
     stepped.into()
@@ -184,10 +194,14 @@ pub fn step(record: Record, byte: u8, lent: Lent) -> Stepped {
             byte,
             lent.edac.as_mut_ptr(),
             lent.edac.len(),
-            lent.fram.as_mut_ptr(),
-            lent.fram.len(),
-            lent.sums.as_mut_ptr(),
-            lent.sums.len(),
+            lent.bootloader.bytes.as_mut_ptr(),
+            lent.bootloader.bytes.len(),
+            lent.bootloader.sums.as_mut_ptr(),
+            lent.bootloader.sums.len(),
+            lent.user.bytes.as_mut_ptr(),
+            lent.user.bytes.len(),
+            lent.user.sums.as_mut_ptr(),
+            lent.user.sums.len(),
             lent.diagnostics.as_mut_ptr(),
             lent.diagnostics.len(),
             lent.message.as_mut_ptr(),
@@ -238,17 +252,8 @@ pub fn store_list(limit: u64, edac: &mut [u8], list: &[u8]) -> u8 {
 pub struct Proved;
 
 impl Wheel for Proved {
-    fn set_up(&self, address: u8, limit: u64, lent: Lent) -> Stepped {
-        set_up(
-            address,
-            limit,
-            lent.edac,
-            lent.fram,
-            lent.sums,
-            lent.diagnostics,
-            lent.message,
-            lent.reply,
-        )
+    fn set_up(&self, address: u8, limit: u64, locked: u8, lent: Lent) -> Stepped {
+        set_up(address, limit, locked, lent)
     }
 
     fn step(&self, record: Record, byte: u8, lent: Lent) -> Stepped {

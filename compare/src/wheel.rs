@@ -4,11 +4,17 @@
 use crate::record::Record;
 use crate::Part;
 
+/// An FRAM, with one kept sum for each block of 256 bytes.
+pub struct Fram<'a> {
+    pub bytes: &'a mut [u8],
+    pub sums: &'a mut [u16],
+}
+
 /// What a call is lent.
 pub struct Lent<'a> {
     pub edac: &'a mut [u8],
-    pub fram: &'a mut [u8],
-    pub sums: &'a mut [u16],
+    pub bootloader: Fram<'a>,
+    pub user: Fram<'a>,
     pub diagnostics: &'a mut [u32],
     pub message: &'a mut [u8],
     pub reply: &'a mut [u8],
@@ -23,7 +29,8 @@ pub struct Stepped {
 }
 
 pub trait Wheel {
-    fn set_up(&self, address: u8, limit: u64, lent: Lent) -> Stepped;
+    /// Bootloader FRAM is locked where `locked` is any number but 0.
+    fn set_up(&self, address: u8, limit: u64, locked: u8, lent: Lent) -> Stepped;
     fn step(&self, record: Record, byte: u8, lent: Lent) -> Stepped;
     /// The answer and the length of the packed message.
     fn pack(&self, message: &[u8], reply: &mut [u8]) -> (u8, usize);
@@ -46,18 +53,10 @@ macro_rules! wheel_of_module {
                 &self,
                 address: u8,
                 limit: u64,
+                locked: u8,
                 lent: $crate::wheel::Lent,
             ) -> $crate::wheel::Stepped {
-                let (record, answer) = $($module)::+::set_up(
-                    address,
-                    limit,
-                    lent.edac,
-                    lent.fram,
-                    lent.sums,
-                    lent.diagnostics,
-                    lent.message,
-                    lent.reply,
-                );
+                let (record, answer) = $($module)::+::set_up(address, limit, locked, lent);
                 $crate::wheel::Stepped { record, answer, sent: 0 }
             }
 
@@ -67,16 +66,7 @@ macro_rules! wheel_of_module {
                 byte: u8,
                 lent: $crate::wheel::Lent,
             ) -> $crate::wheel::Stepped {
-                let (record, answer, sent) = $($module)::+::step(
-                    record,
-                    byte,
-                    lent.edac,
-                    lent.fram,
-                    lent.sums,
-                    lent.diagnostics,
-                    lent.message,
-                    lent.reply,
-                );
+                let (record, answer, sent) = $($module)::+::step(record, byte, lent);
                 $crate::wheel::Stepped { record, answer, sent }
             }
 

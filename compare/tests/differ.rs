@@ -47,7 +47,8 @@ fn every_answer_and_every_command_comes_often() {
             assert!(times.of(answer) >= 20, "{answer}:\n{tally}");
         }
     }
-    // Every read-only row is written over and beside and shown in every way, every file written, and every end of the limits met.
+    // Every read-only row is written over and beside and shown in every way, every file written, and every end of the limits
+    // and of the two FRAMs met.
     let missed = tally.missed();
     assert!(missed.is_empty(), "{missed:#?}\n{tally}");
 }
@@ -55,8 +56,10 @@ fn every_answer_and_every_command_comes_often() {
 #[test]
 fn a_run_that_is_too_short_says_what_it_missed() {
     // 39 rows in nine ways, but for the two ways by file of the one that is no file, and 256 files; four limits, and a count
-    // beyond the limit in each of four places.
-    let all = 39 * 9 - 2 + 256 + 4 + 4;
+    // beyond the limit in each of four places; four forms of range from window to window in seven ways, CRC in three more and
+    // with each of four ends at each of four, the lock by four answers when locked and when not, POKE in three ways, and two
+    // bytes and three set-ups by what they say of the lock.
+    let all = 39 * 9 - 2 + 256 + 4 + 4 + 4 * 7 + 3 + 16 + 8 + 3 + 5;
     let mut tally = Tally::default();
     assert_eq!(tally.missed().len(), all);
     session(&Second, &Second, 1, &mut tally).unwrap();
@@ -71,8 +74,8 @@ struct Noting {
 }
 
 impl Wheel for Noting {
-    fn set_up(&self, address: u8, limit: u64, lent: Lent) -> Stepped {
-        Second.set_up(address, limit, lent)
+    fn set_up(&self, address: u8, limit: u64, locked: u8, lent: Lent) -> Stepped {
+        Second.set_up(address, limit, locked, lent)
     }
 
     fn step(&self, record: Record, byte: u8, lent: Lent) -> Stepped {

@@ -4,7 +4,7 @@
 use compare::differ::{sessions, Tally};
 use compare::wheel::Second;
 // What the copies of the second program find under these names in their own crate.
-use compare::{record, Part};
+use compare::{record, wheel, Part};
 
 mod mistakes {
     include!(concat!(env!("OUT_DIR"), "/mistakes.rs"));

@@ -4,8 +4,15 @@ use crate::record::{Mode, Record};
 use crate::second::read_only::{Row, ROWS};
 use crate::Seeded;
 
-const FIRST: i64 = 0x2004_0000;
 const APPLICATION: [u8; 4] = [0x00, 0x00, 0x05, 0x20];
+pub const LOCK: [u8; 4] = [0xEF, 0xBE, 0xAD, 0xDE];
+
+/// The first addresses of bootloader FRAM and of user FRAM, and the one behind both.
+pub const WINDOWS: [i64; 3] = [0x2000_0000, 0x2004_0000, 0x2008_0000];
+
+/// The addresses at which a range of CRC begins and ends, each with each: at the ends of the windows, and one off.
+pub const FIRSTS: [u32; 4] = [0x1FFF_FFFF, 0x2000_0000, 0x2003_FFFF, 0x2004_0000];
+pub const LASTS: [u32; 4] = [0x2003_FFFF, 0x2004_0000, 0x2007_FFFF, 0x2008_0000];
 
 /// A code and its data for a unit with this record, whose limit is the most data that a sound message to it has.
 pub fn command(seeded: &mut Seeded, record: &Record) -> (u8, Vec<u8>) {
@@ -13,11 +20,11 @@ pub fn command(seeded: &mut Seeded, record: &Record) -> (u8, Vec<u8>) {
     let code = code(seeded, record.mode);
     let mut data = match code {
         0x00 => any_data(seeded, limit),
-        0x01 => init(seeded, record.mode),
-        0x02 => peek(seeded, limit, record.fram_len),
-        0x03 => poke(seeded, limit, record.fram_len),
+        0x01 => init(seeded),
+        0x02 => peek(seeded, record),
+        0x03 => poke(seeded, record),
         0x04 => diagnostic(seeded, limit),
-        0x06 => crc(seeded, record.fram_len),
+        0x06 => crc(seeded, record),
         0x07 => read_file(seeded, limit),
         0x08 => write_file(seeded, limit),
         0x09 => read_edac(seeded, limit),
@@ -43,8 +50,8 @@ fn code(seeded: &mut Seeded, mode: Mode) -> u8 {
     match seeded.below(16) {
         0 => seeded.below(32) as u8,
         _ => seeded.pick(&[
-            0x00, 0x01, 0x02, 0x02, 0x03, 0x03, 0x03, 0x04, 0x05, 0x06, 0x06, 0x06, 0x07, 0x07,
-            0x08, 0x08, 0x08, 0x09, 0x09, 0x0A, 0x0A, 0x0B, 0x0B,
+            0x00, 0x01, 0x02, 0x02, 0x02, 0x02, 0x03, 0x03, 0x03, 0x03, 0x04, 0x05, 0x06, 0x06,
+            0x06, 0x07, 0x07, 0x08, 0x08, 0x08, 0x09, 0x09, 0x0A, 0x0A, 0x0B, 0x0B,
         ]),
     }
 }
@@ -78,15 +85,14 @@ fn any_data(seeded: &mut Seeded, limit: usize) -> Vec<u8> {
     bytes(seeded, length)
 }
 
-fn init(seeded: &mut Seeded, mode: Mode) -> Vec<u8> {
-    let mut address = APPLICATION.to_vec();
-    match (seeded.below(8), mode) {
-        (0..=3, Mode::Bootloader) | (0..=4, Mode::Application) => address,
-        (4 | 5, _) => Vec::new(),
-        (6, _) => {
-            address[seeded.below(4)] ^= 1 << seeded.below(8);
-            address
-        }
+/// The lock comes seldom, since nothing but another record takes it away.
+fn init(seeded: &mut Seeded) -> Vec<u8> {
+    match seeded.below(16) {
+        0..=8 => APPLICATION.to_vec(),
+        9 | 10 => Vec::new(),
+        11 => LOCK.to_vec(),
+        12 => nearly(seeded, APPLICATION),
+        13 => nearly(seeded, LOCK),
         _ => {
             let length = seeded.below(9);
             bytes(seeded, length)
@@ -94,7 +100,19 @@ fn init(seeded: &mut Seeded, mode: Mode) -> Vec<u8> {
     }
 }
 
-/// A place at or about the edges of blocks and of the FRAM, as an offset from its first byte.
+/// Not what INIT takes, though nearly: a bit off, the bytes in another order, or one too few or too many.
+pub fn nearly(seeded: &mut Seeded, taken: [u8; 4]) -> Vec<u8> {
+    let mut data = taken.to_vec();
+    match seeded.below(6) {
+        0..=2 => data[seeded.below(4)] ^= 1 << seeded.below(8),
+        3 => data.reverse(),
+        4 => drop(data.pop()),
+        _ => data.push(0),
+    }
+    data
+}
+
+/// A place at or about the edges of blocks and of an FRAM, as an offset from its first byte.
 fn fram_edge(seeded: &mut Seeded, fram_len: usize) -> i64 {
     let edge = match seeded.below(8) {
         0 => 0,
@@ -105,41 +123,68 @@ fn fram_edge(seeded: &mut Seeded, fram_len: usize) -> i64 {
     edge as i64 + seeded.pick(&[-1, 0, 0, 0, 1])
 }
 
-/// A range by its first offset and its count, which is at least 1.
-fn fram_range(seeded: &mut Seeded, fram_len: usize) -> (i64, i64) {
+/// One FRAM or the other: its first address, and how much of it is fitted.
+fn chip(seeded: &mut Seeded, record: &Record) -> (i64, usize) {
+    seeded.pick(&[
+        (WINDOWS[0], record.bootloader_len),
+        (WINDOWS[1], record.fram_len),
+    ])
+}
+
+/// A range by its first address and its count, which is at least 1 mostly.
+fn fram_range(seeded: &mut Seeded, record: &Record) -> (i64, i64) {
+    if seeded.one_in(4) {
+        return across(seeded);
+    }
+    let (first, fram_len) = chip(seeded, record);
     let (a, b) = (fram_edge(seeded, fram_len), fram_edge(seeded, fram_len));
     match seeded.below(16) {
         // Most ranges are short and lie inside.
         0..=5 => {
             let count = 1 + seeded.below(12);
             let start = seeded.below(fram_len + 1 - count.min(fram_len));
-            (start as i64, count as i64)
+            (first + start as i64, count as i64)
         }
-        6 => (a, 1 + seeded.below(300) as i64),
-        7 => (a, fram_len as i64 - a),
-        8 => (seeded.number() as u32 as i64 - FIRST, 1 + a.abs()),
+        6 => (first + a, 1 + seeded.below(300) as i64),
+        7 => (first + a, fram_len as i64 - a),
+        8 => (seeded.number() as u32 as i64, 1 + a.abs()),
         // At the ends of all addresses, where a sum of 32 bits would wrap.
         9 => (
-            seeded.pick(&[0, 0x1_0000_0000 - FIRST, 0x1_0000_0000 - 2 * FIRST]) - FIRST + a,
+            seeded.pick(&[0, 0x1_0000_0000 - first, 0x1_0000_0000 - 2 * first]) + a,
             b.abs(),
         ),
-        _ => (a.min(b), (a - b).abs()),
+        _ => (first + a.min(b), (a - b).abs()),
     }
 }
 
-fn address(offset: i64) -> [u8; 4] {
-    ((FIRST + offset) as u32).to_le_bytes()
+/// A range over the border between the two, or just up to it, about any end of a window, or from one window into the other.
+fn across(seeded: &mut Seeded) -> (i64, i64) {
+    let mut below = |n| seeded.below(n) as i64;
+    let (start, end) = match below(4) {
+        0 => (WINDOWS[1] - 1 - below(300), WINDOWS[1] + below(3)),
+        1 => (WINDOWS[0] + below(262_144), WINDOWS[1] + below(262_144)),
+        _ => {
+            let edge = WINDOWS[below(3) as usize];
+            (edge - below(3), edge + below(3))
+        }
+    };
+    (start, end - start)
 }
 
-fn peek(seeded: &mut Seeded, limit: usize, fram_len: usize) -> Vec<u8> {
+fn address(number: i64) -> [u8; 4] {
+    (number as u32).to_le_bytes()
+}
+
+fn peek(seeded: &mut Seeded, record: &Record) -> Vec<u8> {
     // The reply has the address too.
-    let most = limit as i64 - 4;
+    let most = i64::from(record.limit) - 4;
     if seeded.one_in(12) {
+        let (first, fram_len) = chip(seeded, record);
         let start = seeded.below(1 + fram_len.saturating_sub(most as usize));
         let count = (most - 1) as u16 + seeded.below(3) as u16;
-        return [&address(start as i64)[..], &count.to_le_bytes()].concat();
+        return [&address(first + start as i64)[..], &count.to_le_bytes()].concat();
     }
-    let (start, count) = fram_range(seeded, fram_len);
+    let (start, count) = fram_range(seeded, record);
     let mut data = address(start).to_vec();
     if seeded.one_in(3) {
         data.push(count.min(256) as u8);
@@ -153,9 +198,9 @@ fn peek(seeded: &mut Seeded, limit: usize, fram_len: usize) -> Vec<u8> {
     data
 }
 
-fn poke(seeded: &mut Seeded, limit: usize, fram_len: usize) -> Vec<u8> {
-    let (start, count) = fram_range(seeded, fram_len);
-    let most = limit as i64 - 4;
+fn poke(seeded: &mut Seeded, record: &Record) -> Vec<u8> {
+    let (start, count) = fram_range(seeded, record);
+    let most = i64::from(record.limit) - 4;
     let count = match seeded.below(16) {
         0 => seeded.pick(&[0, 1, 256, most - 1, most]),
         _ => count.clamp(1, most),
@@ -164,8 +209,12 @@ fn poke(seeded: &mut Seeded, limit: usize, fram_len: usize) -> Vec<u8> {
     [&address(start)[..], &stored].concat()
 }
 
-fn crc(seeded: &mut Seeded, fram_len: usize) -> Vec<u8> {
-    let (first, count) = fram_range(seeded, fram_len);
+fn crc(seeded: &mut Seeded, record: &Record) -> Vec<u8> {
+    if seeded.one_in(5) {
+        let ends = [seeded.pick(&FIRSTS), seeded.pick(&LASTS)];
+        return ends.map(u32::to_le_bytes).concat();
+    }
+    let (first, count) = fram_range(seeded, record);
     let (start, end) = match seeded.below(12) {
         0 => (address(first + count), address(first)),
         1 => (address(first), address(first)),

@@ -83,7 +83,7 @@ pub fn another(pair: &mut Pair, seeded: &mut Seeded) -> Played {
 /// A set-up and some bytes with a limit that no unit can have, and nothing else wrong but the count now and then.
 pub fn wrong(pair: &mut Pair, seeded: &mut Seeded) -> Played {
     let record = pair.record;
-    pair.set_up(record.address, wide_none(seeded))?;
+    pair.set_up(record.address, wide_none(seeded), record.locked)?;
     pair.record = Record {
         limit: none(seeded),
         place: seeded.pick(&PLACES),

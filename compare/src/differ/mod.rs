@@ -2,10 +2,11 @@
 //! agree, and after every FEND and every refusal every lent buffer whole, with the cells beyond what was lent.
 //!
 //! A session is a unit's life from its seed alone: `play` chooses what happens, `commands` and `lines` make the bytes, `limits`
-//! hands in limits, `lists` asks about lists of files and sends them, `pair` feeds both wheels and holds them against each other,
-//! `tally`, `rows` and `limits` keep what was reached.
+//! hands in limits, `frams` locks bootloader FRAM, `lists` asks about lists of files and sends them, `pair` feeds both wheels and
+//! holds them against each other, `tally`, `rows`, `limits` and `frams` keep what was reached.
 
 mod commands;
+mod frams;
 mod limits;
 mod lines;
 mod lists;

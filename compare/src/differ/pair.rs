@@ -2,7 +2,7 @@
 
 use super::tally::Tally;
 use crate::record::{Record, REFUSED};
-use crate::wheel::{Lent, Wheel};
+use crate::wheel::{Fram, Lent, Wheel};
 use crate::{Part, Seeded};
 use std::panic::{catch_unwind, AssertUnwindSafe};
 
@@ -11,26 +11,51 @@ const FEND: u8 = 0xC0;
 /// Cells beyond the right length of each buffer, so that a longer one can be lent and a write past the end shows.
 const SLACK: usize = 512;
 
+/// Which of two FRAMs, wherever a pair has both.
+pub const BOOTLOADER: usize = 0;
+pub const USER: usize = 1;
+
 /// Everything that can be lent, one side's copy.
 #[derive(Clone, PartialEq)]
 pub struct Buffers {
     pub edac: Vec<u8>,
-    pub fram: Vec<u8>,
-    pub sums: Vec<u16>,
+    pub frams: [Chip; 2],
     pub diagnostics: Vec<u32>,
     pub message: Vec<u8>,
     pub reply: Vec<u8>,
+}
+
+/// An FRAM and its sums.
+#[derive(Clone, PartialEq)]
+pub struct Chip {
+    pub bytes: Vec<u8>,
+    pub sums: Vec<u16>,
 }
 
 /// How many cells of each buffer the next call is lent.
 #[derive(Clone, Copy, Debug, PartialEq)]
 pub struct Lengths {
     pub edac: usize,
-    pub fram: usize,
-    pub sums: usize,
+    pub frams: [ChipLengths; 2],
     pub diagnostics: usize,
     pub message: usize,
     pub reply: usize,
+}
+
+#[derive(Clone, Copy, Debug, PartialEq)]
+pub struct ChipLengths {
+    pub bytes: usize,
+    pub sums: usize,
+}
+
+impl ChipLengths {
+    /// So many bytes, with as many sums as they have whole blocks.
+    pub fn of(bytes: usize) -> ChipLengths {
+        ChipLengths {
+            bytes,
+            sums: bytes / 256,
+        }
+    }
 }
 
 pub struct Pair<'a> {
@@ -46,13 +71,18 @@ pub struct Pair<'a> {
 /// The largest FRAM that may be fitted.
 pub const LARGEST: usize = 262_144;
 
-/// FRAM sizes: mostly small, so that whole buffers are quickly compared, and the largest in every 32nd session.
-fn fram_len(seed: u64, seeded: &mut Seeded) -> usize {
-    match seed % 32 {
-        31 => LARGEST,
-        30 => 256 * (1 + seeded.below(1_024)),
-        27..=29 => 256 * (1 + seeded.below(64)),
-        _ => 256 * (1 + seeded.below(6)),
+/// FRAM sizes: mostly small, so that whole buffers are quickly compared. Of 64 sessions each FRAM is the largest in two.
+fn fram_lens(seed: u64, seeded: &mut Seeded) -> [usize; 2] {
+    let mut blocks = |most| 256 * (1 + seeded.below(most));
+    match seed % 64 {
+        15 => [LARGEST, blocks(6)],
+        31 => [blocks(6), LARGEST],
+        63 => [LARGEST, LARGEST],
+        14 => [blocks(1_024), blocks(6)],
+        30 => [blocks(6), blocks(1_024)],
+        10..=13 => [blocks(64), blocks(6)],
+        26..=29 => [blocks(6), blocks(64)],
+        _ => [blocks(6), blocks(6)],
     }
 }
 
@@ -64,21 +94,21 @@ impl<'a> Pair<'a> {
         seeded: &mut Seeded,
         tally: &'a mut Tally,
     ) -> Pair<'a> {
-        let fram = fram_len(seed, seeded);
         let lengths = Lengths {
             edac: 1_536,
-            fram,
-            sums: fram / 256,
+            frams: fram_lens(seed, seeded).map(ChipLengths::of),
             diagnostics: 31,
             message: 1_033 + seeded.pick(&[0, 0, 0, 1, 200]),
             reply: 2_068 + seeded.pick(&[0, 0, 0, 1, 200]),
         };
         let cells = Buffers {
             edac: seeded.bytes(lengths.edac + SLACK),
-            fram: seeded.bytes(lengths.fram + SLACK),
-            sums: (0..lengths.sums + SLACK)
-                .map(|_| seeded.number() as u16)
-                .collect(),
+            frams: lengths.frams.map(|lengths| Chip {
+                bytes: seeded.bytes(lengths.bytes + SLACK),
+                sums: (0..lengths.sums + SLACK)
+                    .map(|_| seeded.number() as u16)
+                    .collect(),
+            }),
             diagnostics: (0..lengths.diagnostics + SLACK)
                 .map(|_| seeded.number() as u32)
                 .collect(),
@@ -117,9 +147,14 @@ impl<'a> Pair<'a> {
         if one.answer < 20 {
             self.tally.limits.byte(&record, byte);
         }
-        if let (1 | 2, Some(held)) = (one.answer, held) {
-            let data = &left.message[3..record.count - 2];
-            self.tally.rows.done(code, data, &held);
+        self.tally.frams.byte(&record, one.answer);
+        if matches!(one.answer, 1..=4 | 10) {
+            let (data, chip) = (&left.message[3..record.count - 2], &left.frams[BOOTLOADER]);
+            let frams = &mut self.tally.frams;
+            frams.answered(&record, code, data, one.answer, chip);
+            if let (1 | 2, Some(held)) = (one.answer, held) {
+                self.tally.rows.done(code, data, &held);
+            }
         }
         self.offset += 1;
         self.record = one.record;
@@ -133,21 +168,22 @@ impl<'a> Pair<'a> {
         Ok(())
     }
 
-    pub fn set_up(&mut self, address: u8, limit: u64) -> Result<u8, String> {
+    pub fn set_up(&mut self, address: u8, limit: u64, locked: u8) -> Result<u8, String> {
         let lengths = self.lengths;
         let [left, right] = &mut self.sides;
-        let call = || format!("set-up of {address:#04x}, limit {limit}, {lengths:?}");
-        let one = returned(
-            || self.first.set_up(address, limit, lent(left, &lengths)),
-            call,
-        )?;
-        let two = returned(
-            || self.second.set_up(address, limit, lent(right, &lengths)),
-            call,
-        )?;
+        let call =
+            || format!("set-up of {address:#04x}, limit {limit}, locked {locked}, {lengths:?}");
+        let made = |wheel: &dyn Wheel, side| {
+            returned(
+                || wheel.set_up(address, limit, locked, lent(side, &lengths)),
+                call,
+            )
+        };
+        let (one, two) = (made(self.first, left)?, made(self.second, right)?);
         agree(one, two, call)?;
         same_buffers(left, right, call)?;
         self.tally.set_ups.add(one.answer);
+        self.tally.frams.set_up(locked, one.answer);
         self.record = one.record;
         Ok(one.answer)
     }
@@ -202,9 +238,17 @@ impl<'a> Pair<'a> {
         self.sides[0].edac.clone()
     }
 
-    /// The most FRAM blocks that can be lent, so that there is still slack.
-    pub fn blocks(&self) -> usize {
-        (self.sides[0].fram.len() - SLACK) / 256
+    /// The most blocks of an FRAM that can be lent, so that there is still slack.
+    pub fn blocks(&self, which: usize) -> usize {
+        (self.sides[0].frams[which].bytes.len() - SLACK) / 256
+    }
+
+    /// The length of an FRAM that the record has.
+    pub fn recorded(&mut self, which: usize) -> &mut usize {
+        match which {
+            BOOTLOADER => &mut self.record.bootloader_len,
+            _ => &mut self.record.fram_len,
+        }
     }
 
     /// Changes both sides' buffers alike, as a caller may between two calls.
@@ -216,13 +260,21 @@ impl<'a> Pair<'a> {
 }
 
 fn lent<'a>(cells: &'a mut Buffers, lengths: &Lengths) -> Lent<'a> {
+    let [bootloader, user] = &mut cells.frams;
     Lent {
         edac: &mut cells.edac[..lengths.edac],
-        fram: &mut cells.fram[..lengths.fram],
-        sums: &mut cells.sums[..lengths.sums],
+        bootloader: lent_chip(bootloader, &lengths.frams[BOOTLOADER]),
+        user: lent_chip(user, &lengths.frams[USER]),
         diagnostics: &mut cells.diagnostics[..lengths.diagnostics],
         message: &mut cells.message[..lengths.message],
         reply: &mut cells.reply[..lengths.reply],
+    }
+}
+
+fn lent_chip<'a>(cells: &'a mut Chip, lengths: &ChipLengths) -> Fram<'a> {
+    Fram {
+        bytes: &mut cells.bytes[..lengths.bytes],
+        sums: &mut cells.sums[..lengths.sums],
     }
 }
 
@@ -251,8 +303,11 @@ fn same_buffers(one: &Buffers, two: &Buffers, call: impl Fn() -> String) -> Resu
     }
     let mut what = call();
     what += &parted("EDAC", &one.edac, &two.edac);
-    what += &parted("FRAM", &one.fram, &two.fram);
-    what += &parted("sums", &one.sums, &two.sums);
+    for (which, name) in ["bootloader FRAM", "user FRAM"].into_iter().enumerate() {
+        let (one, two) = (&one.frams[which], &two.frams[which]);
+        what += &parted(name, &one.bytes, &two.bytes);
+        what += &parted(&format!("sums of {name}"), &one.sums, &two.sums);
+    }
     what += &parted("diagnostics", &one.diagnostics, &two.diagnostics);
     what += &parted("message", &one.message, &two.message);
     what += &parted("reply", &one.reply, &two.reply);

@@ -1,8 +1,8 @@
-//! A session: a unit is set up, with one limit or another, and then messages, noise, callers who alter what they lend or lend it
-//! wrongly, and callers who ask about lists of files.
+//! A session: a unit is set up, with one limit or another, locked or not, and then messages, noise, callers who alter what they
+//! lend or lend it wrongly, and callers who ask about lists of files.
 
-use super::pair::{Lengths, Pair, LARGEST};
-use super::{commands, limits, lines, lists};
+use super::pair::{ChipLengths, Lengths, Pair, BOOTLOADER, LARGEST, USER};
+use super::{commands, frams, limits, lines, lists};
 use crate::record::{Mode, Place, Record};
 use crate::second::read_only::ROWS;
 use crate::{Part, Seeded};
@@ -12,9 +12,11 @@ const FESC: u8 = 0xDB;
 
 pub type Played = Result<(), String>;
 
+const FRAMS: [usize; 2] = [BOOTLOADER, USER];
+
 /// Line bytes of a session. A large FRAM takes long to compare, so its sessions are short.
-fn bytes_with(fram_len: usize) -> u64 {
-    if fram_len > LARGE {
+fn bytes_with(lengths: &Lengths) -> u64 {
+    if is_large(lengths) {
         8_192
     } else {
         32_768
@@ -24,17 +26,23 @@ fn bytes_with(fram_len: usize) -> u64 {
 /// Above this an FRAM is set up and compared seldom.
 const LARGE: usize = 16_384;
 
+fn is_large(lengths: &Lengths) -> bool {
+    lengths.frams.iter().any(|fram| fram.bytes > LARGE)
+}
+
 pub fn play(pair: &mut Pair, seeded: &mut Seeded) -> Played {
     if seeded.one_in(4) {
         refused_set_up(pair, seeded)?;
     }
     set_up(pair, seeded)?;
-    if pair.lengths.fram == LARGEST {
-        one_block_too_many(pair)?;
+    for which in FRAMS {
+        if pair.lengths.frams[which].bytes == LARGEST {
+            one_block_too_many(pair, which)?;
+        }
     }
-    let bytes = bytes_with(pair.lengths.fram);
+    let bytes = bytes_with(&pair.lengths);
     while pair.offset < bytes {
-        match seeded.below(72) {
+        match seeded.below(74) {
             0..=28 => sound_run(pair, seeded)?,
             29..=31 => read_only_row(pair, seeded)?,
             32..=35 => repeated(pair, seeded)?,
@@ -50,13 +58,14 @@ pub fn play(pair: &mut Pair, seeded: &mut Seeded) -> Played {
             64..=67 => lists::asked(pair, seeded)?,
             68..=69 => lists::sent(pair, seeded)?,
             70 => limits::another(pair, seeded)?,
-            _ => limits::wrong(pair, seeded)?,
+            71 => limits::wrong(pair, seeded)?,
+            _ => frams::about_the_lock(pair, seeded)?,
         }
     }
     Ok(())
 }
 
-/// Any address and any limit that a unit may have.
+/// Any address and any limit that a unit may have, locked or not.
 fn set_up(pair: &mut Pair, seeded: &mut Seeded) -> Played {
     let address = match seeded.below(3) {
         0 => seeded.pick(&[0x01, 0xC1, 0xBF, 0xDA, 0xDC, 0xDD, 0xFF]),
@@ -68,25 +77,24 @@ fn set_up(pair: &mut Pair, seeded: &mut Seeded) -> Played {
     } else {
         address
     };
-    pair.set_up(address, limits::any(seeded).into())?;
+    pair.set_up(address, limits::any(seeded).into(), frams::locked(seeded))?;
     Ok(())
 }
 
 /// More FRAM than may be fitted, on which record, slice and sums agree.
-fn one_block_too_many(pair: &mut Pair) -> Played {
+fn one_block_too_many(pair: &mut Pair, which: usize) -> Played {
     let (lengths, record) = (pair.lengths, pair.record);
-    pair.lengths.fram += 256;
-    pair.lengths.sums += 1;
-    pair.record.fram_len += 256;
+    pair.lengths.frams[which] = ChipLengths::of(LARGEST + 256);
+    *pair.recorded(which) += 256;
     pair.byte(FEND)?;
-    pair.set_up(record.address, record.limit.into())?;
+    pair.set_up(record.address, record.limit.into(), record.locked)?;
     (pair.lengths, pair.record) = (lengths, record);
     Ok(())
 }
 
 /// A set-up in the midst of it all. A large FRAM's sums take long, so there it comes seldom.
 fn another_set_up(pair: &mut Pair, seeded: &mut Seeded) -> Played {
-    if pair.lengths.fram > LARGE && !seeded.one_in(16) {
+    if is_large(&pair.lengths) && !seeded.one_in(16) {
         return Ok(());
     }
     if seeded.one_in(2) {
@@ -137,7 +145,10 @@ fn repeated(pair: &mut Pair, seeded: &mut Seeded) -> Played {
     let message = lines::message(seeded, &pair.record);
     run(pair, seeded, &lines::escaped(&message))?;
     if seeded.one_in(2) {
-        pair.alter(|lent| lent.sums.iter_mut().for_each(|sum| *sum ^= 0x0101));
+        pair.alter(|lent| {
+            let sums = lent.frams.iter_mut().flat_map(|fram| &mut fram.sums);
+            sums.for_each(|sum| *sum ^= 0x0101);
+        });
     }
     run(pair, seeded, &lines::escaped(&message))
 }
@@ -189,18 +200,19 @@ fn planted(pair: &mut Pair, seeded: &mut Seeded) -> Played {
 
 /// The caller writes into what it lends.
 fn altered_memory(pair: &mut Pair, seeded: &mut Seeded) {
-    let byte = seeded.number() as u8;
-    match seeded.below(8) {
+    let (byte, which) = (seeded.number() as u8, seeded.pick(&FRAMS));
+    let lengths = pair.lengths.frams[which];
+    match seeded.below(9) {
         0 => altered_counts(pair, seeded),
         1 => {
-            let at = seeded.below(pair.lengths.sums);
+            let at = seeded.below(lengths.sums);
             let sum = seeded.number() as u16;
-            pair.alter(|lent| lent.sums[at] = sum);
+            pair.alter(|lent| lent.frams[which].sums[at] = sum);
         }
-        2 => pair.alter(|lent| lent.sums.fill(u16::from(byte) * 0x0101)),
+        2 => pair.alter(|lent| lent.frams[which].sums.fill(u16::from(byte) * 0x0101)),
         3 => {
-            let at = seeded.below(pair.lengths.fram);
-            pair.alter(|lent| lent.fram[at] = byte);
+            let at = seeded.below(lengths.bytes);
+            pair.alter(|lent| lent.frams[which].bytes[at] = byte);
         }
         4 => {
             let at = match seeded.below(3) {
@@ -213,6 +225,7 @@ fn altered_memory(pair: &mut Pair, seeded: &mut Seeded) {
         }
         5 => pair.alter(|lent| lent.message.fill(byte)),
         6 => pair.alter(|lent| lent.reply.fill(byte)),
+        7 => frams::altered(pair, seeded),
         _ => {
             let at = seeded.below(31);
             pair.alter(|lent| lent.diagnostics[at] = u32::from(byte) << 20 | 0xC0DB);
@@ -228,8 +241,8 @@ fn altered_counts(pair: &mut Pair, seeded: &mut Seeded) {
     }
 }
 
-/// The caller hands in another record: any mode, limit, place and count. A count that is refused is set right afterwards, since
-/// nothing else would come of it.
+/// The caller hands in another record: any mode, lock, limit, place and count. A count that is refused is set right afterwards,
+/// since nothing else would come of it.
 fn altered_record(pair: &mut Pair, seeded: &mut Seeded) -> Played {
     if seeded.one_in(2) {
         pair.record.limit = limits::any(seeded);
@@ -248,6 +261,7 @@ fn altered_record(pair: &mut Pair, seeded: &mut Seeded) -> Played {
     };
     pair.record = Record {
         mode: seeded.pick(&[Mode::Bootloader, Mode::Application, Mode::Application]),
+        locked: frams::locked(seeded),
         place: seeded.pick(&[Place::Fresh, Place::Run, Place::Escape, Place::Fault]),
         count,
         ..pair.record
@@ -266,13 +280,13 @@ fn altered_record(pair: &mut Pair, seeded: &mut Seeded) -> Played {
 
 /// From now on the caller lends an FRAM of another length, and its record says so.
 fn another_fram(pair: &mut Pair, seeded: &mut Seeded) {
-    if pair.lengths.fram > LARGE {
+    if is_large(&pair.lengths) {
         return;
     }
-    let blocks = 1 + seeded.below(pair.blocks());
-    pair.lengths.fram = 256 * blocks;
-    pair.lengths.sums = blocks;
-    pair.record.fram_len = 256 * blocks;
+    let which = seeded.pick(&FRAMS);
+    let length = 256 * (1 + seeded.below(pair.blocks(which)));
+    pair.lengths.frams[which] = ChipLengths::of(length);
+    *pair.recorded(which) = length;
 }
 
 /// A byte that means something to the receiver, mostly.
@@ -298,6 +312,7 @@ fn wrongly_lent(pair: &mut Pair, seeded: &mut Seeded) -> Played {
     }
     pair.lengths = lengths;
     pair.record.address = record.address;
+    pair.record.bootloader_len = record.bootloader_len;
     pair.record.fram_len = record.fram_len;
     pair.record.limit = record.limit;
     if pair.record.count > 1_034 {
@@ -308,40 +323,47 @@ fn wrongly_lent(pair: &mut Pair, seeded: &mut Seeded) -> Played {
 
 /// Makes the record wrong, given the right lengths.
 fn spoil_record(pair: &mut Pair, seeded: &mut Seeded, right: &Lengths) {
-    let fram = right.fram;
-    match seeded.below(5) {
+    let which = seeded.pick(&FRAMS);
+    let fram = right.frams[which].bytes;
+    match seeded.below(7) {
         0 => pair.record.address = seeded.pick(&[0x00, FEND, FESC]),
         1 => {
-            pair.record.fram_len =
+            *pair.recorded(which) =
                 seeded.pick(&[0, fram - 256, fram + 256, fram + (1 << 32), usize::MAX]);
         }
         // Record and slice agree, on a length that is wrong or for which there are not as many sums.
         2 => {
             let length = seeded.pick(&[0, 1, fram - 1, fram + 1, fram + 128, fram + 256]);
-            (pair.lengths.fram, pair.record.fram_len) = (length, length);
+            (pair.lengths.frams[which].bytes, *pair.recorded(which)) = (length, length);
             if seeded.one_in(2) {
-                pair.lengths.sums = length / 256;
+                pair.lengths.frams[which].sums = length / 256;
             }
         }
         3 => pair.record.count = seeded.pick(&[1_035, 1_036, 1 << 32, usize::MAX]),
+        // Each FRAM's length in the other's place.
+        4 => {
+            pair.record.bootloader_len = right.frams[USER].bytes;
+            pair.record.fram_len = right.frams[BOOTLOADER].bytes;
+        }
+        5 => pair.record.locked = frams::locked(seeded),
         _ => pair.record.limit = limits::none(seeded),
     }
 }
 
 /// Makes a length wrong, given the right ones.
 fn spoil_length(pair: &mut Pair, seeded: &mut Seeded, right: &Lengths) {
-    let (lengths, fram, sums) = (&mut pair.lengths, right.fram, right.sums);
-    match seeded.below(7) {
+    let which = seeded.pick(&FRAMS);
+    let ChipLengths { bytes, sums } = right.frams[which];
+    let lengths = &mut pair.lengths;
+    let chip = &mut lengths.frams[which];
+    match seeded.below(8) {
         0 => lengths.edac = seeded.pick(&[0, 1, 384, 1_535, 1_537, 2_048]),
-        1 => lengths.fram = seeded.pick(&[0, fram - 256, fram - 1, fram + 1, fram + 256]),
-        2 => lengths.sums = seeded.pick(&[0, sums - 1, sums + 1, sums + sums.min(256)]),
-        3 => lengths.diagnostics = seeded.pick(&[0, 30, 32, 124]),
-        4 => lengths.message = seeded.pick(&[0, 4, 1_032]),
+        1 => chip.bytes = seeded.pick(&[0, bytes - 256, bytes - 1, bytes + 1, bytes + 256]),
+        2 | 3 => chip.sums = seeded.pick(&[0, sums - 1, sums + 1, sums + sums.min(256)]),
+        4 => lengths.diagnostics = seeded.pick(&[0, 30, 32, 124]),
+        5 => lengths.message = seeded.pick(&[0, 4, 1_032]),
         // FRAM and sums agree on a block more or less.
-        5 => {
-            lengths.fram = seeded.pick(&[fram - 256, fram + 256]);
-            lengths.sums = lengths.fram / 256;
-        }
+        6 => *chip = ChipLengths::of(seeded.pick(&[bytes - 256, bytes + 256])),
         _ => lengths.reply = seeded.pick(&[0, 1_033, 2_067]),
     }
 }
@@ -360,7 +382,7 @@ fn refused_set_up(pair: &mut Pair, seeded: &mut Seeded) -> Played {
     for _ in 0..seeded.below(4) {
         spoil_length(pair, seeded, &lengths);
     }
-    pair.set_up(address, limit)?;
+    pair.set_up(address, limit, frams::locked(seeded))?;
     if seeded.one_in(2) {
         pair.lengths = lengths;
     }

@@ -1,5 +1,6 @@
 //! What the streams reached: a comparison says little about what never came.
 
+use super::frams::Frams;
 use super::limits::Limits;
 use super::rows::Rows;
 use std::fmt;
@@ -52,6 +53,8 @@ pub struct Tally {
     pub rows: Rows,
     /// The limits that units had.
     pub limits: Limits,
+    /// What was done about the two FRAMs.
+    pub frams: Frams,
 }
 
 impl Tally {
@@ -66,7 +69,12 @@ impl Tally {
 
     /// What a run never did.
     pub fn missed(&self) -> Vec<String> {
-        [self.limits.missed(), self.rows.missed()].concat()
+        [
+            self.limits.missed(),
+            self.rows.missed(),
+            self.frams.missed(),
+        ]
+        .concat()
     }
 }
 
@@ -83,6 +91,7 @@ impl fmt::Display for Tally {
         writeln!(f, "  storing a list: {}", self.stored)?;
         writeln!(f, "  sending a judged list: {}", self.sent)?;
         writeln!(f, "  {}", self.limits)?;
+        writeln!(f, "  {}", self.frams)?;
         write!(f, "  {}", self.rows)
     }
 }

@@ -1,9 +1,11 @@
 //! 01, The line and The message (ICD 10): the tests at the close of a run, and the reply.
 
 use super::command::{self, Memory, No};
+use super::fram::Frams;
 use super::line::{self, Run};
 use super::{crc, limit};
 use crate::record::Record;
+use crate::wheel::Lent;
 
 /// The fewest bytes of a message: two addresses, control and CRC (ICD 10.2).
 pub const SHORTEST: usize = 5;
@@ -25,22 +27,23 @@ enum Judged<'a> {
 }
 
 /// Closes a run: the record, the answer and the length sent.
-pub fn close(
-    record: Record,
-    run: Run,
-    memory: Memory,
-    diagnostics: &mut [u32],
-    message: &[u8],
-    reply: &mut [u8],
-) -> (Record, u8, usize) {
-    match judged(run, &record, message) {
+pub fn close(record: Record, run: Run, lent: Lent) -> (Record, u8, usize) {
+    match judged(run, &record, lent.message) {
         Judged::Empty => (record, 0, 0),
         Judged::Dropped(number) => {
-            add_one(number, diagnostics);
+            add_one(number, lent.diagnostics);
             (record, number, 0)
         }
         Judged::ForAnother => (record, 9, 0),
-        Judged::Command(command) => obeyed(record, command, memory, diagnostics, reply),
+        Judged::Command(command) => {
+            let (bootloader, user) = (lent.bootloader, lent.user);
+            let memory = Memory {
+                edac: lent.edac,
+                frams: Frams { bootloader, user },
+                diagnostics: lent.diagnostics,
+            };
+            obeyed(record, command, memory, lent.reply)
+        }
     }
 }
 
@@ -76,25 +79,13 @@ fn add_one(number: u8, diagnostics: &mut [u32]) {
 }
 
 /// Carries a command out and answers 1 to 4 or 10.
-fn obeyed(
-    record: Record,
-    command: &[u8],
-    memory: Memory,
-    diagnostics: &[u32],
-    reply: &mut [u8],
-) -> (Record, u8, usize) {
+fn obeyed(record: Record, command: &[u8], memory: Memory, reply: &mut [u8]) -> (Record, u8, usize) {
     let (control, data) = (command[2], &command[3..]);
     let poll = control & POLL != 0;
-    let (limit, mut mode) = (record.limit.into(), record.mode);
-    match command::carry_out(control & CODE, data, limit, &mut mode, memory, diagnostics) {
-        Ok(shown) => {
-            let record = Record { mode, ..record };
-            if poll {
-                (record, 1, send(command, ACK, &shown, reply))
-            } else {
-                (record, 2, 0)
-            }
-        }
+    let mut after = record;
+    match command::carry_out(control & CODE, data, &mut after, memory) {
+        Ok(shown) if poll => (after, 1, send(command, ACK, &shown, reply)),
+        Ok(_) => (after, 2, 0),
         // A NACK carries the command's data.
         Err(No::Refused) if poll => (record, 3, send(command, 0, data, reply)),
         Err(No::Refused) => (record, 4, 0),

@@ -1,14 +1,15 @@
 //! 01, Commands (ICD 11): the eleven commands. Each judges its data's length first, then counts and the reply's size, then
 //! the memory range, and changes nothing before all of that is settled. The limit is the most data bytes of a reply.
 
-use super::{edac, fram, list};
-use crate::record::Mode;
+use super::fram::{self, Chip, Frams};
+use super::{edac, list, lock};
+use crate::record::{Mode, Record};
 
-/// The memory that commands read and write.
+/// What commands read and write.
 pub struct Memory<'a> {
     pub edac: &'a mut [u8],
-    pub fram: &'a mut [u8],
-    pub sums: &'a mut [u16],
+    pub frams: Frams<'a>,
+    pub diagnostics: &'a mut [u32],
 }
 
 /// Why a command is not done.
@@ -23,28 +24,29 @@ pub enum No {
 type Done = Result<Vec<u8>, No>;
 
 const PING_TEXT: &[u8] = b"WHEEL UNIT NSP 01";
-const APPLICATION: u32 = 0x2005_0000;
 
-pub fn carry_out(
-    code: u8,
-    data: &[u8],
-    limit: usize,
-    mode: &mut Mode,
-    memory: Memory,
-    diagnostics: &[u32],
-) -> Done {
-    let Memory { edac, fram, sums } = memory;
+// What INIT takes beside no data at all: the start of the application, and 02's word for the lock.
+const APPLICATION: u32 = 0x2005_0000;
+const LOCK: u32 = 0xDEAD_BEEF;
+
+pub fn carry_out(code: u8, data: &[u8], record: &mut Record, memory: Memory) -> Done {
+    let Memory {
+        edac,
+        frams,
+        diagnostics,
+    } = memory;
+    let limit = record.limit.into();
     // ICD 11.4: READ FILE and all below are for application mode only.
-    if code >= 0x07 && *mode == Mode::Bootloader {
+    if code >= 0x07 && record.mode == Mode::Bootloader {
         return Err(No::Refused);
     }
     match code {
         0x00 => Ok(PING_TEXT.to_vec()),
-        0x01 => init(data, mode),
-        0x02 => peek(data, limit, fram),
-        0x03 => poke(data, fram, sums),
+        0x01 => init(data, record, diagnostics),
+        0x02 => peek(data, limit, frams),
+        0x03 => poke(data, record.locked != 0, frams),
         0x04 => diagnostic(data, limit, diagnostics),
-        0x06 => crc(data, fram, sums),
+        0x06 => crc(data, frams),
         0x07 => read_file(data, limit, edac),
         0x08 => write_file(data, limit, edac),
         0x09 => read_edac(data, limit, edac),
@@ -54,20 +56,29 @@ pub fn carry_out(
     }
 }
 
-/// Bootloader mode with no data; application mode only from the bootloader and only by its one address.
-fn init(data: &[u8], mode: &mut Mode) -> Done {
+/// Bootloader mode with no data. From the bootloader only: application mode by its one address, and the lock, which is for good
+/// and is shown again where it was there already.
+fn init(data: &[u8], record: &mut Record, diagnostics: &mut [u32]) -> Done {
     if data.is_empty() {
-        *mode = Mode::Bootloader;
+        record.mode = Mode::Bootloader;
         return Ok(Vec::new());
     }
-    if data == APPLICATION.to_le_bytes() && *mode == Mode::Bootloader {
-        *mode = Mode::Application;
+    if record.mode != Mode::Bootloader {
+        return Err(No::Refused);
+    }
+    if data == APPLICATION.to_le_bytes() {
+        record.mode = Mode::Application;
+        return Ok(data.to_vec());
+    }
+    if data == LOCK.to_le_bytes() {
+        record.locked = 1;
+        lock::show(true, diagnostics);
         return Ok(data.to_vec());
     }
     Err(No::Refused)
 }
 
-fn peek(data: &[u8], limit: usize, fram: &[u8]) -> Done {
+fn peek(data: &[u8], limit: usize, frams: Frams) -> Done {
     let count = match data.len() {
         5 => short_count(data[4]),
         6 => long_count(data[4], data[5])?,
@@ -76,18 +87,21 @@ fn peek(data: &[u8], limit: usize, fram: &[u8]) -> Done {
     if 4 + count > limit {
         return Err(No::Refused);
     }
-    let range = fram::range(word(&data[..4]), count as u64, fram)?;
-    Ok([&data[..4], &fram[range]].concat())
+    let (_, fram, range) = fram::find(word(&data[..4]), count as u64, frams)?;
+    Ok([&data[..4], &fram.bytes[range]].concat())
 }
 
-fn poke(data: &[u8], fram: &mut [u8], sums: &mut [u16]) -> Done {
+/// A locked chip is no error: the command is echoed, and nothing is stored (ICD 11.8).
+fn poke(data: &[u8], locked: bool, frams: Frams) -> Done {
     // Five bytes or more, up to the limit: the message has no others.
     if data.len() < 5 {
         return Err(No::Refused);
     }
     let (address, bytes) = data.split_at(4);
-    let range = fram::range(word(address), bytes.len() as u64, fram)?;
-    fram::store(range, bytes, fram, sums);
+    let (chip, fram, range) = fram::find(word(address), bytes.len() as u64, frams)?;
+    if chip == Chip::User || !locked {
+        fram::store(range, bytes, fram);
+    }
     Ok(data.to_vec())
 }
 
@@ -107,7 +121,7 @@ fn diagnostic(data: &[u8], limit: usize, diagnostics: &[u32]) -> Done {
 }
 
 /// The last address is included. One before the first is refused, even outside FRAM.
-fn crc(data: &[u8], fram: &[u8], sums: &[u16]) -> Done {
+fn crc(data: &[u8], frams: Frams) -> Done {
     if data.len() != 8 {
         return Err(No::Refused);
     }
@@ -115,8 +129,8 @@ fn crc(data: &[u8], fram: &[u8], sums: &[u16]) -> Done {
     if last < first {
         return Err(No::Refused);
     }
-    let range = fram::range(first, u64::from(last - first) + 1, fram)?;
-    let sum = fram::sum_of_range(range, fram, sums);
+    let (_, fram, range) = fram::find(first, u64::from(last - first) + 1, frams)?;
+    let sum = fram::sum_of_range(range, fram);
     Ok([data, &sum.to_le_bytes()].concat())
 }
 

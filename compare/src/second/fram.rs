@@ -1,44 +1,75 @@
-//! 01, Commands (ICD 12.2.4): user FRAM by address, and one kept sum for each block of 256 bytes.
+//! 01, Commands, and 02, T-07 (ICD 12.2.3, 12.2.4): bootloader FRAM and user FRAM by address, and one kept sum for each block of
+//! 256 bytes. The two are one kind of memory, and only their addresses and the lock tell them apart.
 
 use super::command::No;
 use super::crc;
+use crate::wheel::Fram;
 use crate::Part;
 use std::ops::Range;
 
-/// The address of the first byte.
-const FIRST: u32 = 0x2004_0000;
 const BLOCK: usize = 256;
 
+/// Which of the two.
+#[derive(Clone, Copy, PartialEq)]
+pub enum Chip {
+    Bootloader,
+    User,
+}
+
+/// The addresses that a chip may have, however much of it is fitted (ICD Table 15).
+fn window(chip: Chip) -> Range<u64> {
+    match chip {
+        Chip::Bootloader => 0x2000_0000..0x2004_0000,
+        Chip::User => 0x2004_0000..0x2008_0000,
+    }
+}
+
+/// Both chips, as they are fitted.
+pub struct Frams<'a> {
+    pub bootloader: Fram<'a>,
+    pub user: Fram<'a>,
+}
+
+/// Where `count` bytes from an address on stand: the chip and its memory, and where there. Nothing is done in part, and
+/// addresses do not wrap. A range that starts among bootloader FRAM's addresses and ends among user FRAM's is refused, whatever
+/// is fitted.
+pub fn find(address: u32, count: u64, frams: Frams) -> Result<(Chip, Fram, Range<usize>), No> {
+    let (start, end) = (u64::from(address), u64::from(address) + count);
+    if window(Chip::Bootloader).contains(&start) && window(Chip::User).contains(&(end - 1)) {
+        return Err(No::Refused);
+    }
+    let chips = [
+        (Chip::Bootloader, frams.bootloader),
+        (Chip::User, frams.user),
+    ];
+    for (chip, fram) in chips {
+        let first = window(chip).start;
+        if first <= start && end <= first + fram.bytes.len() as u64 {
+            let range = (start - first) as usize..(end - first) as usize;
+            return Ok((chip, fram, range));
+        }
+    }
+    Err(No::NotFitted)
+}
+
 /// Set-up: every block's sum.
-pub fn sum_every_block(fram: &[u8], sums: &mut [u16]) {
-    for (block, sum) in fram.chunks(BLOCK).zip(sums) {
+pub fn sum_every_block(fram: Fram) {
+    for (block, sum) in fram.bytes.chunks(BLOCK).zip(fram.sums) {
         *sum = crc::sum(block);
     }
 }
 
-/// Where `count` bytes from an address on stand in the fitted FRAM. Nothing is done in part, and addresses do not wrap.
-pub fn range(address: u32, count: u64, fram: &[u8]) -> Result<Range<usize>, No> {
-    let Some(start) = address.checked_sub(FIRST) else {
-        return Err(No::NotFitted);
-    };
-    let end = u64::from(start) + count;
-    if end > fram.len() as u64 {
-        return Err(No::NotFitted);
-    }
-    Ok(start as usize..end as usize)
-}
-
 /// Stores bytes and sets the sum of every block that they touch, and no other sum.
-pub fn store(range: Range<usize>, bytes: &[u8], fram: &mut [u8], sums: &mut [u16]) {
+pub fn store(range: Range<usize>, bytes: &[u8], fram: Fram) {
     let touched = range.start / BLOCK..=(range.end - 1) / BLOCK;
-    fram[range].copy_from_slice(bytes);
+    fram.bytes[range].copy_from_slice(bytes);
     for block in touched {
-        sums[block] = crc::sum(&fram[block * BLOCK..(block + 1) * BLOCK]);
+        fram.sums[block] = crc::sum(&fram.bytes[block * BLOCK..(block + 1) * BLOCK]);
     }
 }
 
 /// The CRC of a range, joined block by block: one wholly covered enters by its kept sum, any other by its bytes.
-pub fn sum_of_range(range: Range<usize>, fram: &[u8], sums: &[u16]) -> u16 {
+pub fn sum_of_range(range: Range<usize>, fram: Fram) -> u16 {
     let mut whole = Part {
         sum: 0xFFFF,
         len: 0,
@@ -48,9 +79,9 @@ pub fn sum_of_range(range: Range<usize>, fram: &[u8], sums: &[u16]) -> u16 {
         let block = at / BLOCK;
         let end = range.end.min((block + 1) * BLOCK);
         let sum = if end - at == BLOCK {
-            sums[block]
+            fram.sums[block]
         } else {
-            crc::sum(&fram[at..end])
+            crc::sum(&fram.bytes[at..end])
         };
         let part = Part {
             sum,

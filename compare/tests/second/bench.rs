@@ -3,12 +3,14 @@
 use compare::plain;
 use compare::record::{Mode, Place, Record, REFUSED};
 use compare::unit::Proved;
-use compare::wheel::{Lent, Second, Wheel};
+use compare::wheel::{Fram, Lent, Second, Wheel};
 
 pub const FEND: u8 = 0xC0;
 pub const ADDRESS: u8 = 0x41;
-pub const FIRST: u32 = 0x2004_0000;
 pub const APPLICATION: [u8; 4] = [0x00, 0x00, 0x05, 0x20];
+
+/// The first address of user FRAM.
+pub const FIRST: u32 = 0x2004_0000;
 
 /// The highest limit, which is that of every unit unless a test says another.
 pub const LIMIT: u64 = 1_028;
@@ -36,6 +38,8 @@ pub struct Bench {
     pub program: Program,
     pub record: Record,
     pub edac: Vec<u8>,
+    pub bootloader: Vec<u8>,
+    pub bootloader_sums: Vec<u16>,
     pub fram: Vec<u8>,
     pub sums: Vec<u16>,
     pub diagnostics: Vec<u32>,
@@ -102,6 +106,9 @@ pub fn unpacked(sent: &[u8]) -> Vec<u8> {
     message
 }
 
+/// How much bootloader FRAM a bench has, unless a test says another length.
+const BOOTLOADER_LEN: usize = 768;
+
 impl Bench {
     /// Lent buffers of right lengths that no set-up has seen.
     pub fn bare(fram_len: usize) -> Bench {
@@ -109,10 +116,17 @@ impl Bench {
     }
 
     pub fn bare_of(program: Program, fram_len: usize) -> Bench {
+        Bench::bare_with(program, BOOTLOADER_LEN, fram_len)
+    }
+
+    pub fn bare_with(program: Program, bootloader_len: usize, fram_len: usize) -> Bench {
         Bench {
             program,
             record: REFUSED,
             edac: pattern(1_536),
+            // Other bytes than those of user FRAM.
+            bootloader: pattern(bootloader_len).iter().map(|byte| !byte).collect(),
+            bootloader_sums: vec![0x3333; bootloader_len / 256],
             fram: pattern(fram_len),
             sums: vec![0x5555; fram_len / 256],
             diagnostics: (0..31).map(|i| 0x1111_0000 + i).collect(),
@@ -126,8 +140,12 @@ impl Bench {
     }
 
     pub fn set_up_with(&mut self, address: u8, limit: u64) -> u8 {
+        self.set_up_as(address, limit, 0)
+    }
+
+    pub fn set_up_as(&mut self, address: u8, limit: u64, locked: u8) -> u8 {
         let wheel = self.program.wheel();
-        let stepped = wheel.set_up(address, limit, self.lent());
+        let stepped = wheel.set_up(address, limit, locked, self.lent());
         assert_eq!(stepped.sent, 0);
         self.record = stepped.record;
         stepped.answer
@@ -136,8 +154,14 @@ impl Bench {
     fn lent(&mut self) -> Lent<'_> {
         Lent {
             edac: &mut self.edac,
-            fram: &mut self.fram,
-            sums: &mut self.sums,
+            bootloader: Fram {
+                bytes: &mut self.bootloader,
+                sums: &mut self.bootloader_sums,
+            },
+            user: Fram {
+                bytes: &mut self.fram,
+                sums: &mut self.sums,
+            },
             diagnostics: &mut self.diagnostics,
             message: &mut self.message,
             reply: &mut self.reply,
@@ -252,13 +276,16 @@ impl Bench {
         assert_eq!(self.reply, before.reply);
     }
 
-    /// EDAC, FRAM, sums, diagnostics and mode are as before.
+    /// EDAC, both FRAMs, their sums, diagnostics, mode and lock are as before.
     pub fn same_memory(&self, before: &Bench) {
         assert_eq!(self.edac, before.edac);
+        assert_eq!(self.bootloader, before.bootloader);
+        assert_eq!(self.bootloader_sums, before.bootloader_sums);
         assert_eq!(self.fram, before.fram);
         assert_eq!(self.sums, before.sums);
         assert_eq!(self.diagnostics, before.diagnostics);
         assert_eq!(self.record.mode, before.record.mode);
+        assert_eq!(self.record.locked, before.record.locked);
     }
 }
 

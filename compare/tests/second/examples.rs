@@ -90,7 +90,7 @@ fn p12_a_torn_list_stores_nothing() {
 }
 
 #[test]
-fn set_up_computes_all_sums_and_changes_nothing_else() {
+fn set_up_computes_all_sums_and_shows_the_lock_and_changes_nothing_else() {
     let mut unit = Bench::bare(1_024);
     let before = unit.clone();
     assert_eq!(unit.set_up(ADDRESS), 0);
@@ -98,12 +98,18 @@ fn set_up_computes_all_sums_and_changes_nothing_else() {
     assert_eq!(unit.record.mode, Mode::Bootloader);
     assert_eq!(unit.record.fram_len, 1_024);
     assert_eq!((unit.record.place, unit.record.count), (Place::Fresh, 0));
-    let sums: Vec<u16> = before.fram.chunks(256).map(crc).collect();
-    assert_eq!(unit.sums, sums);
-    let rest = Bench {
-        record: before.record,
-        sums: before.sums.clone(),
-        ..unit
+    let sums = |fram: &[u8]| fram.chunks(256).map(crc).collect();
+    let due = Bench {
+        record: unit.record,
+        bootloader_sums: sums(&before.bootloader),
+        sums: sums(&before.fram),
+        // The status of bootloader FRAM (02, T-07).
+        diagnostics: {
+            let mut diagnostics = before.diagnostics.clone();
+            diagnostics[0x06] = 0x1111_0040;
+            diagnostics
+        },
+        ..before
     };
-    assert_eq!(rest, before);
+    assert_eq!(unit, due);
 }

@@ -46,7 +46,9 @@ fn set_up_keeps_the_limit() {
             let due = Record {
                 address: ADDRESS,
                 mode: Mode::Bootloader,
+                bootloader_len: 768,
                 fram_len: 256,
+                locked: 0,
                 limit: limit as u16,
                 place: Place::Fresh,
                 count: 0,

@@ -128,6 +128,7 @@ fn fram_lengths() {
         // A record and a slice that agree on a wrong length are refused too.
         let mut unit = Bench::bare(fram_len);
         unit.record.address = ADDRESS;
+        unit.record.bootloader_len = unit.bootloader.len();
         unit.record.fram_len = fram_len;
         unit.record.limit = 1_028;
         assert_eq!(unit.byte(FEND).0, due, "{fram_len}");
