@@ -8,9 +8,11 @@ use compare::wheel::{Fram, Lent, Second, Wheel};
 pub const FEND: u8 = 0xC0;
 pub const ADDRESS: u8 = 0x41;
 pub const APPLICATION: [u8; 4] = [0x00, 0x00, 0x05, 0x20];
+pub const LOCK: [u8; 4] = [0xEF, 0xBE, 0xAD, 0xDE];
 
-/// The first address of user FRAM.
+/// The first addresses of user FRAM and of bootloader FRAM.
 pub const FIRST: u32 = 0x2004_0000;
+pub const BOOTLOADER: u32 = 0x2000_0000;
 
 /// The highest limit, which is that of every unit unless a test says another.
 pub const LIMIT: u64 = 1_028;

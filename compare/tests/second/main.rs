@@ -4,6 +4,7 @@
 
 mod asking;
 mod bench;
+mod bootloader;
 mod commands;
 mod edges;
 mod examples;
