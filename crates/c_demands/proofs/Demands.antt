@@ -307,6 +307,15 @@ once-locked-no-bytes-from-C-change-bootloader-FRAM u before calls follow locked 
     subst (λ (s : Own). (s .unit .locked ≡ true) × (s .frams .bootloader ≡ before .bootloader)) (sym (calls-from-C calls u before follow))
     (once-locked-no-bytes-change-bootloader-FRAM (asLending calls) (own (unitIn u) before) locked)
 
+-- And so from its set-up on: `wheel_set_up` was told that it is locked, by any number but 0, and answered 0.
+pub set-up-locked-from-C-it-stays-locked : (address limit locked : ℕ) (lent : World) (back : WheelStepped) (after : World) → SetsUp address limit locked lent back after
+    → back .answer ≡ 0 → lockIn locked ≡ true → (calls : List FromC) → Follow (back .unit) (after .frams) calls
+    → (lockIn (lastUnit (back .unit) calls .locked) ≡ true) × (lastFrams (after .frams) calls .bootloader ≡ after .frams .bootloader)
+set-up-locked-from-C-it-stays-locked address limit locked lent back after sets-up served told calls follow =
+    let is = what-a-set-up-from-C-leaves address limit locked lent back after sets-up .0 served .0 in
+    let unit : unitIn (back .unit) ≡ somebody address limit (lockIn locked) lent = ap unitIn is ∙ a-record-comes-back (somebody address limit (lockIn locked) lent) in
+    once-locked-no-bytes-from-C-change-bootloader-FRAM (back .unit) (after .frams) calls follow (ap (λ (v : Unit). v .locked) unit ∙ told)
+
 -- ---- 02, T-02 and T-11
 
 -- Let nothing but calls of `wheel_set_up`, `wheel_step` and `wheel_store_list` change EDAC memory, in any order, with whatever records, bytes, lists and

@@ -1,7 +1,7 @@
 -- What a command leaves of the lock and of the diagnostics: the order to lock sets both, and no other command either. Assumes nothing.
 use mathlib.Core.Path.{_≡_, refl, sym, ap, ap₂, _∙_, subst}
 use mathlib.Core.Bool.{Bool, true, false, cond, _&&_, _||_, false≢true}
-use mathlib.Core.List.{List, [], _∷_}
+use mathlib.Core.List.{List}
 use Prim.Native.Nat.{ℕ}
 use native.Mathlib.Omega.{arith}
 use borrow.Author.Tests.{eq-eqb, ne-eqb, eqb-true}
@@ -12,7 +12,7 @@ use Rattle.memory.specs.Status.{statusWritten}
 use Rattle.carrying.specs.declared.Mode.{Mode}
 use Rattle.carrying.specs.declared.Mode.the-variants.{Bootloader, Application}
 use Rattle.carrying.specs.Ending.{Ending, done, refused, unfitted}
-use Rattle.carrying.specs.Held.{Frams, Standing, standing, Held, held, inside, reading, onStanding, onEdac, onFrams, after}
+use Rattle.carrying.specs.Held.{Standing, Held, held, inside, reading, onStanding, onEdac, after}
 use Rattle.carrying.proofs.Room.{either-way}
 use Rattle.fram_commands.specs.ByAddress.{peekByAddress, pokeByAddress, crcByAddress}
 use Rattle.file_commands.specs.ReadFile.{readFileOf}
@@ -39,9 +39,9 @@ pub or-not : (b : Bool) → b ≡ (b || false)
 or-not true = refl
 or-not false = refl
 
-or-so : (b : Bool) → true ≡ (b || true)
-or-so true = refl
-or-so false = refl
+pub or-true : (b : Bool) → (b || true) ≡ true
+or-true true = refl
+or-true false = refl
 
 unmoved : (s : Standing) → Marked false s s
 unmoved s = (or-not (s .locked), refl)
@@ -72,7 +72,7 @@ module _ (room code : ℕ) (now : Held) (field : List ℕ) where
       let came : commandOf room code now field ≡ onStanding now (done field (lockedFrom (now .standing)))
       = in-either-mode room code now field 0x01 (onStanding now (initOf (now .standing) field)) (eqb-true code 0x01 (parts .0)) refl
       ∙ ap (onStanding now) (init-locks (now .standing) field (λ none. omega arith) (not-both (now .standing .mode) field (parts .1)) (parts .1)) in
-      subst (Marks true now) (sym came) (or-so (now .standing .locked), refl)
+      subst (Marks true now) (sym came) (sym (or-true (now .standing .locked)), refl)
 
   init-leaves : orders lockOrder (now .standing .mode) field ≡ false → Marks false now (onStanding now (initOf (now .standing) field))
   unfolding initOf

@@ -77,8 +77,7 @@ module _ (u : Unit) (message : List ℕ) (source control : ℕ) (field : List �
       ∙ ap (λ o. answered (withReceiver u opened) (u .address) source control field o laid) came))
       (answers-so reply after)
 
--- A POKE of one byte or more, as many as the limit allows (1,024 at 1,028), inside one of the FRAMs is done: user FRAM, or bootloader FRAM where it is
--- not locked, then has them where its address says, and all else of both is as it was;
+-- A POKE of one byte or more, as many as the limit allows (1,024 at 1,028), inside one of the FRAMs:
 module _ (u : Unit) (message : List ℕ) (source control address : ℕ) (bytes : List ℕ) (calls : List Call) (c : Call)
     (sends : Sends u message source control (bytes32 address ++ bytes) calls c) (code : codeOf control ≡ 0x03) (some : 1 ≤ length bytes)
     (which : Which) (starts : firstOf which ≤ address) (ends : address + length bytes ≤ firstOf which + length (framOf which (c .lent .frams) .fram)) where
@@ -117,6 +116,12 @@ module _ (u : Unit) (message : List ℕ) (source control address : ℕ) (bytes :
       × (leftBy u message calls c .world .frams ≡ withFram which (c .lent .frams) (cond (lockOf which (u .locked)) memory (storeOf memory (address - firstOf which) bytes)))
   poke-left = let so = a-command-that-is-done-answers-so u message source control poking calls c sends _ _ poked in (so .0, so .2)
 
+  -- it is echoed, locked or not: with poll set the bytes sent are the packed reply with the command's own data;
+  pub a-POKE-inside-FRAM-is-echoed : polls control ≡ true → sentBy (leftBy u message calls c) ≡ packedOf (replyMessage 1 (u .address) source control poking)
+  a-POKE-inside-FRAM-is-echoed polled = a-command-that-is-done-sends-its-data u message source control poking calls c sends polled _ _ poked
+
+  -- it is done, and user FRAM, or bootloader FRAM where it is not locked, then has the bytes where its address says, with the sums of their blocks, and
+  -- all else of both is as it was;
   pub a-POKE-inside-FRAM-is-done : lockOf which (u .locked) ≡ false
       → (numberOf (leftBy u message calls c .answer) ≡ doneAnswer control)
       × (leftBy u message calls c .world .frams ≡ withFram which (c .lent .frams) (storeOf memory (address - firstOf which) bytes))
@@ -125,7 +130,7 @@ module _ (u : Unit) (message : List ℕ) (source control address : ℕ) (bytes :
     poke-left .1 ∙ ap (λ (b : Bool). withFram which (c .lent .frams) (cond b memory (storeOf memory (address - firstOf which) bytes))) free,
   )
 
-  -- and where bootloader FRAM is locked it is done all the same, echoed, and both are as they were.
+  -- and where bootloader FRAM is locked it is done all the same, and both are as they were, with their sums.
   pub a-POKE-of-a-locked-FRAM-is-done : lockOf which (u .locked) ≡ true
       → (numberOf (leftBy u message calls c .answer) ≡ doneAnswer control) × (leftBy u message calls c .world .frams ≡ c .lent .frams)
   a-POKE-of-a-locked-FRAM-is-done shut = (

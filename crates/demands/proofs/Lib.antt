@@ -10,5 +10,6 @@ pub mod Storing
 pub mod Doing
 pub mod Asking
 pub mod Locked
+pub mod Border
 pub mod Worked
 pub mod Settled

@@ -1,29 +1,30 @@
 -- 02, T-07: bootloader FRAM, once locked, stays as it is; what locks it, and what diagnostic 0x06 shows of it. Assumes nothing.
-use mathlib.Core.Path.{_≡_, refl, sym, ap, ap₂, _∙_, subst}
+use mathlib.Core.Path.{_≡_, refl, sym, ap, _∙_, subst}
 use mathlib.Core.Bool.{Bool, true, false, cond, _&&_, _||_}
 use mathlib.Core.List.{List, [], _∷_}
-use Prim.Native.Nat.{ℕ, _+_, _*_, _/_, _≤_, _<_}
+use Prim.Native.Nat.{ℕ, _+_, _*_, _/_, _%_, _≤_, _<_}
 use native.Mathlib.Omega.{arith}
 use borrow.Author.Tests.{leb-true}
-use lib.Dec.{leb, eqb}
-use lib.ListN.{length, getD}
+use lib.Dec.{leb}
+use lib.ListN.{length, getD, length-set}
 use lib.Seq.{getD-set-same, getD-set-other}
 use Rattle.line.specs.Receiver.{opened}
 use Rattle.field.specs.Fields.{bytes32}
-use Rattle.memory.specs.Counts.{channels, countedUp}
+use Rattle.memory.specs.Counts.{countedUp}
 use Rattle.memory.specs.Status.{framStatus, statusByte, statusWritten}
-use Rattle.memory.proofs.FramStatus.{what-a-status-writes, a-status-moves-no-other-diagnostic}
+use Rattle.memory.proofs.FramStatus.{what-a-status-writes, a-status-moves-no-other-diagnostic, a-status-keeps-the-length}
 use Rattle.blocks.specs.Fram.{Kept}
 use Rattle.carrying.specs.declared.Mode.{Mode}
 use Rattle.carrying.specs.declared.Mode.the-variants.{Bootloader, Application}
 use Rattle.carrying.specs.Ending.{Ending, done, refused, unfitted}
-use Rattle.carrying.specs.Held.{Frams, frams, Which, ofBootloader, ofUser, framOf, withFram, Standing, standing, Held, held, inside, onStanding}
+use Rattle.carrying.specs.Held.{Frams, frams, Which, ofBootloader, ofUser, framOf, withFram, Standing, standing, held, inside, onStanding}
 use Rattle.fram_commands.specs.Windows.{firstOfBootloader, firstOfUser, firstOf, whichOf}
 use Rattle.fram_commands.specs.Poke.{pokeOf}
 use Rattle.fram_commands.specs.ByAddress.{lockOf, pokeByAddress}
 use Rattle.fram_commands.proofs.Storing.{a-locked-POKE-stores-nothing}
-use Rattle.command.specs.Init.{applicationStart, lockOrder, orders, lockedFrom, initOf}
+use Rattle.command.specs.Init.{lockOrder, initOf}
 use Rattle.command.proofs.Codes.{in-either-mode}
+use Rattle.command.proofs.Locking.{or-not, or-true}
 use Rattle.command.proofs.Ways.{init-locks, init-refuses}
 use Rattle.answer.specs.Answers.{numberOf}
 use Rattle.judging.specs.declared.Unit.{Unit}
@@ -32,15 +33,14 @@ use Rattle.judging.specs.Fitting.{setUpFit}
 use Rattle.judging.specs.Judging.{withReceiver}
 use Rattle.judging.proofs.Serving.{a-served-set-up-fits}
 use Rattle.replying.specs.Replies.{codeOf}
-use Rattle.unit.specs.World.{World, lengthsOf, Outcome, withFrams, withStanding, heldOf}
+use Rattle.unit.specs.World.{World, lengthsOf, Outcome, withFrams, heldOf}
 use Rattle.unit.specs.Steps.{setUpOf, answered, stepOf}
-use Rattle.unit.proofs.Serving.{set-up-served}
 use Rattle.demands.specs.Calls.{Call, Lending, its-memory, another, Own, own, ownOf, calledOf}
-use Rattle.demands.specs.Locking.{locks}
+use Rattle.demands.specs.Locking.{locks, fedAll}
 use Rattle.demands.specs.Leaving.{countsAfter}
 use Rattle.demands.specs.Orders.{Sends, withItsMessage, leftBy, doneAnswer, cameTo}
 use Rattle.demands.proofs.DemandOne.{what-every-answer-leaves}
-use Rattle.demands.proofs.DemandThree.{Keeps, keeps-inside, a-call-keeps-what-a-POKE-keeps}
+use Rattle.demands.proofs.DemandThree.{Keeps, a-call-keeps-what-a-POKE-keeps}
 use Rattle.demands.proofs.Orders.{what-a-sent-command-leaves}
 use Rattle.demands.proofs.Doing.{a-command-that-is-done-answers-so}
 
@@ -190,3 +190,65 @@ what-set-up-writes-of-the-FRAM-status address limit locked w e =
           ∙ getD-set-same (w .diagnostics) framStatus (getD (w .diagnostics) framStatus 0 / 256 * 256 + statusByte locked) 0 (omega arith),
       λ channel other. ap (λ l. getD l channel 0) is ∙ a-status-moves-no-other-diagnostic locked (w .diagnostics) channel other,
     )
+
+-- ---- and that it is true
+
+length-of-counts : (number : ℕ) (diagnostics : List ℕ) → length (countsAfter number diagnostics) ≡ length diagnostics
+unfolding countedUp
+length-of-counts number diagnostics = by (leb 5 number && leb number 8)
+  where
+    by : (b : Bool) → length (cond b (countedUp diagnostics (number + 2)) diagnostics) ≡ length diagnostics
+    by true = simp length-set
+    by false = refl
+
+-- the low byte says what the record says, and the other three are what they were
+abbrev Told : ℕ → Unit → List ℕ → Type 0
+Told before u diagnostics =
+    (framStatus < length diagnostics) × (getD diagnostics framStatus 0 % 256 ≡ statusByte (u .locked)) × (getD diagnostics framStatus 0 / 256 ≡ before / 256)
+
+a-byte-tells : (before : ℕ) (u : Unit) (byte : ℕ) (w : World) → Told before u (w .diagnostics) → Told before (stepOf u byte w .unit) (stepOf u byte w .world .diagnostics)
+a-byte-tells before u byte w told =
+    let o = stepOf u byte w in
+    let leaves = what-every-answer-leaves u byte w in
+    subst (λ (l : List ℕ). Told before (o .unit) l) (sym (leaves .counts)) (by (locks u byte w) (leaves .lock) (numberOf (o .answer)))
+  where
+    by : (b : Bool) → stepOf u byte w .unit .locked ≡ (u .locked || b) → (number : ℕ)
+        → Told before (stepOf u byte w .unit) (cond b (statusWritten true (w .diagnostics)) (countsAfter number (w .diagnostics)))
+    by true lock number =
+        let long = a-status-keeps-the-length true (w .diagnostics) in
+        let wrote = what-a-status-writes true (w .diagnostics) (told .0) in
+        (omega (arith, told .0), wrote .0 ∙ ap statusByte (sym (lock ∙ or-true (u .locked))), wrote .1 ∙ told .2)
+    by false lock number =
+        let long = length-of-counts number (w .diagnostics) in
+        let same = no-count-is-the-status number (w .diagnostics) in (
+          omega (arith, told .0),
+          ap (λ (n : ℕ). n % 256) same ∙ told .1 ∙ ap statusByte (or-not (u .locked) ∙ sym lock),
+          ap (λ (n : ℕ). n / 256) same ∙ told .2,
+        )
+
+bytes-tell : (before : ℕ) (bytes : List ℕ) (u : Unit) (w : World) → Told before u (w .diagnostics)
+    → let end = fedAll u w bytes in Told before (end .unit) (end .world .diagnostics)
+bytes-tell before [] u w told = told
+bytes-tell before (byte ∷ bytes) u w told =
+    bytes-tell before bytes (stepOf u byte w .unit) (stepOf u byte w .world) (a-byte-tells before u byte w told)
+
+-- From a set-up that is served on, where nothing but the unit changes its record and what it is lent, after any bytes the low byte of diagnostic 0x06 is
+-- 0xCC where the record is locked and 0x40 where it is not, and its other three bytes are what they were before set-up.
+pub what-the-FRAM-status-shows-is-true : (address limit : ℕ) (locked : Bool) (w : World) → setUpFit address limit (lengthsOf w) ≡ Fits → (bytes : List ℕ)
+    → let o = setUpOf address limit locked w in
+    let end = fedAll (o .unit) (o .world) bytes in
+    (getD (end .world .diagnostics) framStatus 0 % 256 ≡ cond (end .unit .locked) 0xCC 0x40)
+    × (getD (end .world .diagnostics) framStatus 0 / 256 ≡ getD (w .diagnostics) framStatus 0 / 256)
+unfolding setUpOf
+what-the-FRAM-status-shows-is-true address limit locked w e bytes =
+    let fits = a-served-set-up-fits address limit (lengthsOf w) e .diagnostics-fit in
+    let there : framStatus < length (w .diagnostics) = omega arith in
+    let long = a-status-keeps-the-length locked (w .diagnostics) in
+    let wrote = what-a-status-writes locked (w .diagnostics) there in
+    let now : setUpOf address limit locked w .world .diagnostics ≡ statusWritten locked (w .diagnostics) = simp e in
+    let lock : setUpOf address limit locked w .unit .locked ≡ locked = simp e in
+    let first : Told (getD (w .diagnostics) framStatus 0) (setUpOf address limit locked w .unit) (setUpOf address limit locked w .world .diagnostics)
+    = subst (λ (l : List ℕ). Told (getD (w .diagnostics) framStatus 0) (setUpOf address limit locked w .unit) l) (sym now)
+    (omega arith, wrote .0 ∙ ap statusByte (sym lock), wrote .1) in
+    let told = bytes-tell (getD (w .diagnostics) framStatus 0) bytes (setUpOf address limit locked w .unit) (setUpOf address limit locked w .world) first in
+    (told .1, told .2)

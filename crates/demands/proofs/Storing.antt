@@ -1,30 +1,37 @@
 -- Demand 2, on what is stored: a command that reads, sent after one that stored and was done, shows what was stored; and elsewhere what
 -- stood there. Between the two, and by them, anything may be lent but the memory that was stored in. Assumes nothing.
-use mathlib.Core.Path.{_≡_, refl, sym, ap, _∙_}
-use mathlib.Core.Bool.{Bool, true, false}
+use mathlib.Core.Path.{_≡_, refl, sym, ap, _∙_, subst}
+use mathlib.Core.Bool.{Bool, true, false, cond, false≢true}
 use mathlib.Core.List.{List, _++_}
-use mathlib.Core.Logic.{_⊎_}
+use mathlib.Core.Logic.{_⊎_, inl, inr, ⊎-elim}
 use Prim.Native.Nat.{ℕ, _+_, _-_, _≤_, _<_}
 use native.Mathlib.Omega.{arith}
-use lib.ListN.{length, drop}
+use borrow.Author.Tests.{le-leb, lt-ltb, ltb-true, ltb-false, eqb-true}
+use lib.Dec.{eqb, ltb}
+use lib.ListN.{length, take, drop, getD}
 use Rattle.line.specs.Packing.{packedOf}
-use Rattle.field.specs.Fields.{word16At, word32At, bytes16, bytes32}
+use Rattle.field.specs.Fields.{word16At, word32At, bytes16, bytes32, shortCount}
 use Rattle.field.proofs.Words.{two-bytes, four-bytes}
 use Rattle.memory.specs.Bytes.{stretch}
 use Rattle.read_only.specs.ReadOnly.{readOnly, keeping}
 use Rattle.memory.specs.Edac.{edacSize}
-use Rattle.blocks.specs.Fram.{Kept, kept}
+use Rattle.memory.proofs.Tests.{either-side}
+use Rattle.blocks.specs.Fram.{Kept, kept, placeOf}
+use Rattle.blocks.specs.declared.Found.the-variants.{At}
 use Rattle.carrying.specs.declared.Mode.{Mode}
 use Rattle.carrying.specs.declared.Mode.the-variants.{Bootloader, Application}
 use Rattle.carrying.specs.Ending.{Ending, done, refused, unfitted}
 use Rattle.carrying.specs.Held.{Frams, Which, ofBootloader, ofUser, oneOf, framOf, withFram, standing, Held, held, inside, reading, onEdac, onFrams}
 use Rattle.carrying.specs.Storing.{withData, shownAfter}
 use Rattle.carrying.proofs.Limits.{within-both-ends}
-use Rattle.carrying.proofs.Storing.{shown-elsewhere}
-use Rattle.fram_commands.specs.Windows.{firstOf, whichOf}
-use Rattle.fram_commands.specs.Peek.{peekOf}
+use Rattle.carrying.proofs.Room.{either-way}
+use Rattle.carrying.proofs.Writing.{length-of-address-then-bytes}
+use Rattle.carrying.proofs.Storing.{either-way-alike, at-any-place-alike, shown-elsewhere}
+use Rattle.fram_commands.specs.Windows.{firstOfBootloader, firstOfUser, endOfUser, firstOf, whichOf, overBorder}
+use Rattle.fram_commands.specs.Peek.{peekRangeOf, peekOf}
 use Rattle.fram_commands.specs.Poke.{pokeOf}
 use Rattle.fram_commands.specs.ByAddress.{peekByAddress, lockOf, pokeByAddress}
+use Rattle.fram_commands.proofs.Ways.{a-place-is-where-its-address-says}
 use Rattle.fram_commands.proofs.Choosing.{a-PEEK-where-it-is-named, a-POKE-where-it-is-named}
 use Rattle.fram_commands.proofs.Storing as fram
 use Rattle.file_commands.specs.ReadFile.{readFileOf}
@@ -44,7 +51,7 @@ use Rattle.replying.specs.Replies.{codeOf, polls, replyMessage}
 use Rattle.unit.specs.World.{heldOf}
 use Rattle.demands.specs.Calls.{Call, Bytes}
 use Rattle.demands.specs.Orders.{Sends, leftBy, sentBy, cameTo, lendingFram, lendingEdac, showing}
-use Rattle.demands.proofs.Orders.{each-a-byte, a-WRITE-FILE-comes-to, WasDone, a-command-that-is-done-sends-its-data, edac-is-whole, a-command-answered-so-was-done}
+use Rattle.demands.proofs.Orders.{each-a-byte, a-WRITE-FILE-comes-to, WasDone, a-command-that-is-done-sends-its-data, edac-is-whole, a-lent-FRAM-is-no-longer, a-command-answered-so-was-done}
 
 -- ---- a part of what is held
 
@@ -97,6 +104,91 @@ bytes-of : (which : Which) (now : Frams) → oneOf which (now .bootloader .fram)
 bytes-of ofBootloader now = refl
 bytes-of ofUser now = refl
 
+same-or-other : (x y : Which) → (x ≡ y) ⊎ (x ≡ y → ⊥)
+same-or-other ofBootloader ofBootloader = inl refl
+same-or-other ofBootloader ofUser = inr (λ e. let z : _≡_ {A = ℕ} 0 1 = cc in absurd (omega arith))
+same-or-other ofUser ofBootloader = inr (λ e. let z : _≡_ {A = ℕ} 0 1 = cc in absurd (omega arith))
+same-or-other ofUser ofUser = inl refl
+
+-- where an address lies that names one of them
+named-below : (field : List ℕ) → whichOf field ≡ ofBootloader → word32At field 0 < firstOfUser
+named-below field e = by (ltb (word32At field 0) firstOfUser) refl e
+  where
+    by : (b : Bool) → ltb (word32At field 0) firstOfUser ≡ b → cond b ofBootloader ofUser ≡ ofBootloader → word32At field 0 < firstOfUser
+    by true t e = ltb-true (word32At field 0) firstOfUser t
+    by false t e = let z : _≡_ {A = ℕ} 0 1 = cc in absurd (omega arith)
+
+named-above : (field : List ℕ) → whichOf field ≡ ofUser → firstOfUser ≤ word32At field 0
+named-above field e = by (ltb (word32At field 0) firstOfUser) refl e
+  where
+    by : (b : Bool) → ltb (word32At field 0) firstOfUser ≡ b → cond b ofBootloader ofUser ≡ ofUser → firstOfUser ≤ word32At field 0
+    by true t e = let z : _≡_ {A = ℕ} 0 1 = cc in absurd (omega arith)
+    by false t e = ltb-false (word32At field 0) firstOfUser t
+
+-- a range of one FRAM that is not over the border does not meet a range inside the other
+does-not-meet : (other which : Which) (field : List ℕ) (count address size : ℕ) → (other ≡ which → ⊥) → whichOf field ≡ other → firstOf other ≤ word32At field 0
+    → overBorder (word32At field 0) count ≡ false → count < 65536 → firstOf which ≤ address → address + size ≤ firstOf which + 262144
+    → (word32At field 0 + count ≤ address) ⊎ (address + size ≤ word32At field 0)
+does-not-meet ofBootloader ofBootloader field count address size apart named starts clear few there ends = absurd (apart refl)
+does-not-meet ofUser ofUser field count address size apart named starts clear few there ends = absurd (apart refl)
+does-not-meet ofUser ofBootloader field count address size apart named starts clear few there ends =
+    let above = named-above field named in inr (omega arith)
+does-not-meet ofBootloader ofUser field count address size apart named starts clear few there ends =
+    let from = word32At field 0 in
+    let below = named-below field named in
+    either-side (from + count) firstOfUser (λ early. inl (omega arith))
+    (λ late.
+    let over : overBorder from count ≡ true =
+    simp (
+      le-leb firstOfBootloader from starts,
+      lt-ltb from firstOfUser below,
+      lt-ltb firstOfUser (from + count) late,
+      le-leb (from + count) endOfUser (omega arith),
+    )
+    in
+    absurd (false≢true (sym clear ∙ over)))
+
+-- so a PEEK of the other shows what it showed
+module _ (other which : Which) (field : List ℕ) (apart : other ≡ which → ⊥) (named : whichOf field ≡ other) (small : Bytes field) (address : ℕ) (bytes : List ℕ)
+    (there : firstOf which ≤ address) (ends : address + length bytes ≤ firstOf which + 262144) where
+  abbrev as-it-was : List ℕ → List ℕ
+  as-it-was = shownAfter 4 address bytes (word32At field 0)
+
+  range-untouched : (room : ℕ) (fram : List ℕ) (count : ℕ) → 4 ≤ length field → count < 65536
+      → peekRangeOf room (firstOf other) fram field count ≡ withData as-it-was (peekRangeOf room (firstOf other) fram field count)
+  unfolding peekRangeOf
+  range-untouched room fram count whole few =
+      either-way-alike as-it-was (eqb count 0) _ _ _ _ (λ _. refl)
+      (λ _. either-way-alike as-it-was (ltb room (4 + count)) _ _ _ _ (λ _. refl)
+      (λ _. either-way-alike as-it-was (overBorder (word32At field 0) count) _ _ _ _ (λ _. refl)
+      (λ clear. at-any-place-alike as-it-was (placeOf (firstOf other) (length fram) (word32At field 0) count) _ _
+      (λ at found. ap (λ l. done l tt) (sym (untouched-there at found clear))))))
+    where
+      untouched-there : (at : ℕ) → placeOf (firstOf other) (length fram) (word32At field 0) count ≡ At at → overBorder (word32At field 0) count ≡ false
+          → as-it-was (take 4 field ++ stretch at count fram) ≡ take 4 field ++ stretch at count fram
+      untouched-there at found clear =
+          let here = a-place-is-where-its-address-says (firstOf other) (length fram) (word32At field 0) count at found in
+          let size = length-of-address-then-bytes 4 field fram at count whole (here .1) in
+          let starts : firstOf other ≤ word32At field 0 = omega (arith, here .0) in
+          let long : length (take 4 field ++ stretch at count fram) - 4 ≡ count = omega (arith, size) in
+          shown-elsewhere 4 address bytes (word32At field 0) (take 4 field ++ stretch at count fram)
+          (subst (λ (n : ℕ). (word32At field 0 + n ≤ address) ⊎ (address + length bytes ≤ word32At field 0)) (sym long)
+          (does-not-meet other which field count address (length bytes) apart named starts clear few there ends))
+
+  a-PEEK-untouched : (room : ℕ) (fram : List ℕ) → peekOf room (firstOf other) fram field ≡ withData as-it-was (peekOf room (firstOf other) fram field)
+  unfolding peekOf
+  a-PEEK-untouched room fram =
+      let one = each-a-byte field small 4 in
+      let two = each-a-byte field small 5 in
+      either-way-alike as-it-was (eqb (length field) 5) _ _ _ _
+      (λ five. let size = eqb-true (length field) 5 five in range-untouched room fram (shortCount (getD field 4 0)) (omega arith) (few-enough (getD field 4 0) one))
+      (λ _. either-way-alike as-it-was (eqb (length field) 6) _ _ _ _
+      (λ six. let size = eqb-true (length field) 6 six in range-untouched room fram (word16At field 4) (omega arith) (omega arith))
+      (λ _. refl))
+    where
+      few-enough : (byte : ℕ) → byte < 256 → shortCount byte < 65536
+      few-enough byte low = either-way (λ (n : ℕ). n < 65536) (eqb byte 0) 256 byte (λ _. omega arith) (λ _. omega arith)
+
 -- A POKE of bytes at an address was sent, to a FRAM that is not locked, and answered 1 or 2.
 module _ (u : Unit) (message : List ℕ) (source control address : ℕ) (bytes : List ℕ) (calls : List Call) (c : Call)
     (sends : Sends u message source control (bytes32 address ++ bytes) calls c) (pokes : codeOf control ≡ 0x03)
@@ -138,39 +230,75 @@ module _ (u : Unit) (message : List ℕ) (source control address : ℕ) (bytes :
         ∙ ap (λ (f : Frams). framOf which f .fram) (known .frams ∙ ap (λ (h : Held). h .frams) (sym (poked .whole)))
         ∙ ap (λ (k : Kept). k .fram) (put-in which (c .lent .frams) (poked .part))
 
-    peeks : (control′ : ℕ) → codeOf control′ ≡ 0x02 → (e : Call) (field : List ℕ) → whichOf field ≡ which
-        → cameTo v e control′ field ≡ reading (heldOf v (e .lent)) (peekOf (v .limit) (firstOf which) (framOf which (e .lent .frams) .fram) field)
-    peeks control′ code e field there =
+    peeks : (x : Which) (control′ : ℕ) → codeOf control′ ≡ 0x02 → (e : Call) (field : List ℕ) → whichOf field ≡ x
+        → cameTo v e control′ field ≡ reading (heldOf v (e .lent)) (peekOf (v .limit) (firstOf x) (framOf x (e .lent .frams) .fram) field)
+    peeks x control′ code e field there =
         in-either-mode (v .limit) (codeOf control′) (heldOf v (e .lent)) field 0x02
         (reading (heldOf v (e .lent)) (peekByAddress (v .limit) (e .lent .frams .bootloader .fram) (e .lent .frams .user .fram) field)) code refl
         ∙ ap (reading (heldOf v (e .lent)))
-        (a-PEEK-where-it-is-named field which there (v .limit) (e .lent .frams .bootloader .fram) (e .lent .frams .user .fram)
-        ∙ ap (λ l. peekOf (v .limit) (firstOf which) l field) (bytes-of which (e .lent .frams)))
+        (a-PEEK-where-it-is-named field x there (v .limit) (e .lent .frams .bootloader .fram) (e .lent .frams .user .fram)
+        ∙ ap (λ l. peekOf (v .limit) (firstOf x) l field) (bytes-of x (e .lent .frams)))
 
-    -- Any PEEK of that FRAM comes to what it came to with its bytes as they were before the POKE, with the bytes poked where its range meets theirs.
-    pub a-PEEK-after-a-POKE : address < 4294967296 → (control′ : ℕ) → codeOf control′ ≡ 0x02 → (field : List ℕ) → whichOf field ≡ which
+    -- a PEEK of the same FRAM
+    on-its-own : address < 4294967296 → (control′ : ℕ) → codeOf control′ ≡ 0x02 → (field : List ℕ) → whichOf field ≡ which
         → cameTo v d control′ field
         ≡ showing (heldOf v (d .lent)) (shownAfter 4 address bytes (word32At field 0))
         (cameTo v (lendingFram which d (framOf which (c .lent .frams) .fram)) control′ field)
-    a-PEEK-after-a-POKE small control′ code field there =
+    on-its-own small control′ code field there =
         let before = framOf which (c .lent .frams) .fram in
-        peeks control′ code d field there
+        peeks which control′ code d field there
         ∙ ap (λ l. reading (heldOf v (d .lent)) (peekOf (v .limit) (firstOf which) l field)) fram-then
         ∙ ap (reading (heldOf v (d .lent)))
         (fram.a-PEEK-after-a-POKE (u .limit) (firstOf which) (framOf which (c .lent .frams)) (bytes32 address ++ bytes) (known .reply) (poked .part) (poked .is) (v .limit) field
         ∙ ap (λ (a : ℕ). withData (shownAfter 4 a bytes (word32At field 0)) (peekOf (v .limit) (firstOf which) before field)) (four-bytes address small))
         ∙ read-so (heldOf v (d .lent)) (heldOf v (lendingFram which d before .lent)) (shownAfter 4 address bytes (word32At field 0)) (peekOf (v .limit) (firstOf which) before field)
         ∙ ap (showing (heldOf v (d .lent)) (shownAfter 4 address bytes (word32At field 0)))
-        (sym (peeks control′ code (lendingFram which d before) field there
+        (sym (peeks which control′ code (lendingFram which d before) field there
         ∙ ap (λ l. reading (heldOf v (lendingFram which d before .lent)) (peekOf (v .limit) (firstOf which) l field))
         (ap (λ (k : Kept). k .fram) (put-in which (d .lent .frams) (kept before (framOf which (d .lent .frams) .sums))))))
 
+    -- where the bytes poked lie
+    lies-there : address < 4294967296 → (firstOf which ≤ address) × (address + length bytes ≤ firstOf which + 262144)
+    lies-there small =
+        let poke = bytes32 address ++ bytes in
+        let was = fram.a-POKE-that-was-done (u .limit) (firstOf which) false (framOf which (c .lent .frams)) poke (known .reply) (poked .part) (poked .is) in
+        let here = a-place-is-where-its-address-says (firstOf which) (length (framOf which (c .lent .frams) .fram)) (word32At poke 0) (length poke - 4) (was .at) (was .found) in
+        let most = a-lent-FRAM-is-no-longer u message source control poke calls c sends which in
+        let is = four-bytes address small in
+        (omega (arith, here .0), omega (arith, here .0, here .1))
+
+    -- a PEEK of the other one
+    on-the-other : address < 4294967296 → (control′ : ℕ) → codeOf control′ ≡ 0x02 → (field : List ℕ) → Bytes field → (other : Which) → (other ≡ which → ⊥) → whichOf field ≡ other
+        → cameTo v d control′ field
+        ≡ showing (heldOf v (d .lent)) (shownAfter 4 address bytes (word32At field 0))
+        (cameTo v (lendingFram which d (framOf which (c .lent .frams) .fram)) control′ field)
+    on-the-other small control′ code field low other apart there =
+        let before = framOf which (c .lent .frams) .fram in
+        let lent = framOf other (d .lent .frams) .fram in
+        let lies = lies-there small in
+        peeks other control′ code d field there
+        ∙ ap (reading (heldOf v (d .lent))) (a-PEEK-untouched other which field apart there low address bytes (lies .0) (lies .1) (v .limit) lent)
+        ∙ read-so (heldOf v (d .lent)) (heldOf v (lendingFram which d before .lent)) (shownAfter 4 address bytes (word32At field 0)) (peekOf (v .limit) (firstOf other) lent field)
+        ∙ ap (showing (heldOf v (d .lent)) (shownAfter 4 address bytes (word32At field 0)))
+        (sym (peeks other control′ code (lendingFram which d before) field there
+        ∙ ap (λ l. reading (heldOf v (lendingFram which d before .lent)) (peekOf (v .limit) (firstOf other) l field))
+        (ap (λ (k : Kept). k .fram) (untouched which other (d .lent .frams) (kept before (framOf which (d .lent .frams) .sums)) apart))))
+
+    -- Any PEEK, of either FRAM, comes to what it came to with that FRAM's bytes as they were before the POKE, with the bytes poked where its range meets
+    -- theirs.
+    pub a-PEEK-after-a-POKE : address < 4294967296 → (control′ : ℕ) → codeOf control′ ≡ 0x02 → (field : List ℕ) → Bytes field
+        → cameTo v d control′ field
+        ≡ showing (heldOf v (d .lent)) (shownAfter 4 address bytes (word32At field 0))
+        (cameTo v (lendingFram which d (framOf which (c .lent .frams) .fram)) control′ field)
+    a-PEEK-after-a-POKE small control′ code field low =
+        ⊎-elim (λ same. on-its-own small control′ code field same) (λ apart. on-the-other small control′ code field low (whichOf field) apart refl) (same-or-other (whichOf field) which)
+
     -- A PEEK whose range does not meet theirs shows what stood there.
-    pub a-PEEK-of-another-range : address < 4294967296 → (control′ : ℕ) → codeOf control′ ≡ 0x02 → (field reply : List ℕ) (now : Held) → whichOf field ≡ which
+    pub a-PEEK-of-another-range : address < 4294967296 → (control′ : ℕ) → codeOf control′ ≡ 0x02 → (field reply : List ℕ) (now : Held) → Bytes field
         → (word32At field 0 + (length reply - 4) ≤ address) ⊎ (address + length bytes ≤ word32At field 0)
         → cameTo v (lendingFram which d (framOf which (c .lent .frams) .fram)) control′ field ≡ done reply now → cameTo v d control′ field ≡ done reply (heldOf v (d .lent))
-    a-PEEK-of-another-range small control′ code field reply now there apart before =
-        a-PEEK-after-a-POKE small control′ code field there
+    a-PEEK-of-another-range small control′ code field reply now low apart before =
+        a-PEEK-after-a-POKE small control′ code field low
         ∙ ap (showing (heldOf v (d .lent)) (shownAfter 4 address bytes (word32At field 0))) before
         ∙ ap (λ l. done l (heldOf v (d .lent))) (shown-elsewhere 4 address bytes (word32At field 0) reply apart)
 
@@ -181,7 +309,7 @@ module _ (u : Unit) (message : List ℕ) (source control address : ℕ) (bytes :
     pub what-was-poked-is-peeked : 4 + length bytes ≤ v .limit → (control′ : ℕ) → codeOf control′ ≡ 0x02
         → cameTo v d control′ (bytes32 address ++ bytes16 (length bytes)) ≡ done (bytes32 address ++ bytes) (heldOf v (d .lent))
     what-was-poked-is-peeked roomy control′ code =
-        peeks control′ code d (bytes32 address ++ bytes16 (length bytes)) named
+        peeks which control′ code d (bytes32 address ++ bytes16 (length bytes)) named
         ∙ ap (λ l. reading (heldOf v (d .lent)) (peekOf (v .limit) (firstOf which) l (bytes32 address ++ bytes16 (length bytes)))) fram-then
         ∙ ap (reading (heldOf v (d .lent)))
         (fram.what-was-poked-is-peeked (u .limit) (firstOf which) (framOf which (c .lent .frams)) address bytes (known .reply) (poked .part) (poked .is) few (v .limit) roomy)

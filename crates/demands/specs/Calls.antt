@@ -72,7 +72,7 @@ lentLengths size c =
       reply = l .reply;
     }
 
--- Lent with the lengths that a unit of this address, set up with so much FRAM, asks for, with a message buffer of this length.
+-- Lent with the lengths that this unit asks for, by its address and the two lengths that it was set up with; with a message buffer of this length.
 abbrev pub Suits : Unit → ℕ → Call → Type 0
 Suits u size c = lengthsFit (u .address) (framsAsSetUp u (lentLengths size c)) (lentLengths size c) Fits ≡ Fits
 

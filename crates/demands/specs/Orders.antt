@@ -68,3 +68,10 @@ lendingEdac c edac = record { byte = c .byte; lent = withEdac (c .lent) edac }
 -- The ending of a command that changes nothing of what is held, with other data in its reply.
 abbrev pub showing : Held → (List ℕ → List ℕ) → Ending Held → Ending Held
 showing now f ending = inside (λ _. now) (withData f ending)
+
+-- 02, T-07: a range by its first and its last address that starts from 0x20000000 to 0x2003FFFF and ends from 0x20040000 to 0x2007FFFF.
+pub record OverTheBorder (first last : ℕ) : Type 0 where
+  pub starts-from : 0x20000000 ≤ first
+  pub starts-to : first ≤ 0x2003FFFF
+  pub ends-from : 0x20040000 ≤ last
+  pub ends-to : last ≤ 0x2007FFFF

@@ -155,7 +155,7 @@ pub record WorkedExamples : Type 0 where
       (0xC0 ∷ 0x11 ∷ 0x41 ∷ 0x82 ∷ 0x00 ∷ 0x00 ∷ 0x04 ∷ 0x20 ∷ 0x01 ∷ 0x01 ∷ 0x1F ∷ 0xD0 ∷ 0xC0 ∷ []) noCounts zeros
       × Shows zeros (0xC0 ∷ 0x41 ∷ 0x11 ∷ 0x82 ∷ 0x00 ∷ 0x00 ∷ 0x04 ∷ 0x20 ∷ 0x01 ∷ 0x01 ∷ 0x61 ∷ 0xF7 ∷ 0xC0 ∷ []) (replicate 12 0 ++ (10 ∷ [])) [] noCounts zeros
   -- 02, T-07: POKE 20000000 AA is stored in bootloader FRAM. INIT DEADBEEF is echoed, and diagnostic 0x06 shows CC from then on: POKE 20000000 BB is
-  -- echoed, and nothing is stored. A PEEK of the last address of bootloader FRAM and the first of user FRAM is refused, though neither is fitted.
+  -- echoed, and nothing is stored. A PEEK of the last address of bootloader FRAM and the first of user FRAM is refused, though the first of the two is not fitted.
   pub T07 : let s = shownBy zeros
       ((0xC0 ∷ 0x41 ∷ 0x11 ∷ 0x83 ∷ 0x00 ∷ 0x00 ∷ 0x00 ∷ 0x20 ∷ 0xAA ∷ 0x62 ∷ 0x92 ∷ 0xC0 ∷ [])
       ++ (0xC0 ∷ 0x41 ∷ 0x11 ∷ 0x81 ∷ 0xEF ∷ 0xBE ∷ 0xAD ∷ 0xDE ∷ 0x88 ∷ 0x50 ∷ 0xC0 ∷ [])

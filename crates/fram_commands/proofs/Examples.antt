@@ -1,11 +1,10 @@
 -- Both sides of PEEK's edge, of the border between the FRAMs and of the lock, by computation. Assumes nothing.
 use mathlib.Core.Path.{_≡_, refl}
 use mathlib.Core.List.{List, [], _∷_, _++_}
-use mathlib.Core.Bool.{Bool, true, false}
+use mathlib.Core.Bool.{true, false}
 use Prim.Native.Nat.{ℕ}
 use lib.ListN.{replicate}
-use Rattle.memory.specs.Bytes.{stored}
-use Rattle.blocks.specs.Fram.{Kept, kept, placeOf, storeOf, refreshed}
+use Rattle.blocks.specs.Fram.{Kept, kept, placeOf, storeOf}
 use Rattle.carrying.specs.Ending.{Ending, longestData, done, refused, unfitted}
 use Rattle.carrying.specs.Held.{frams}
 use Rattle.carrying.proofs.Asking.{isDone, isRefused}
@@ -22,7 +21,7 @@ pub peek-1024 : (isDone (peekOf longestData 0x20040000 fram (0x00 ∷ 0x00 ∷ 0
 unfolding peekOf peekRangeOf placeOf
 peek-1024 = (refl, refl, refl)
 
--- ---- 02, T-07: two small memories, in which every range below lies outside
+-- ---- 02, T-07: the border, with two small memories in which none of its ranges lies
 
 abbrev small : List ℕ
 small = replicate 256 0
@@ -47,13 +46,15 @@ pub where-it-starts : (crc (0xFF ∷ 0xFF ∷ 0xFF ∷ 0x1F ∷ []) (0x00 ∷ 0x
 unfolding crcByAddress crcOf placeOf
 where-it-starts = (refl, refl, refl, refl)
 
--- PEEK and POKE of two bytes from 0x2003FFFF; the reply's size and last before first come before the border
+-- PEEK and POKE of two bytes from 0x2003FFFF, and of one; a locked POKE too: the border and 10 come before the lock
 pub the-others-over-the-border : (peekByAddress longestData small small (0xFF ∷ 0xFF ∷ 0x03 ∷ 0x20 ∷ 0x02 ∷ []) ≡ refused)
     × (peekByAddress longestData small small (0xFF ∷ 0xFF ∷ 0x03 ∷ 0x20 ∷ 0x01 ∷ []) ≡ unfitted)
     × (pokeByAddress longestData true (frams (kept small (0 ∷ [])) (kept small (0 ∷ []))) (0xFF ∷ 0xFF ∷ 0x03 ∷ 0x20 ∷ 0xAA ∷ 0xBB ∷ []) ≡ refused)
     × (pokeByAddress longestData true (frams (kept small (0 ∷ [])) (kept small (0 ∷ []))) (0xFF ∷ 0xFF ∷ 0x03 ∷ 0x20 ∷ 0xAA ∷ []) ≡ unfitted)
 unfolding peekByAddress pokeByAddress peekOf peekRangeOf pokeOf placeOf
 the-others-over-the-border = (refl, refl, refl, refl)
+
+-- ---- and the lock
 
 -- A POKE of the first byte of a bootloader FRAM with a wrong sum, 0x1234: locked it is echoed, and neither byte nor sum moves; unlocked both do.
 -- The same POKE of user FRAM knows no lock.

@@ -15,10 +15,10 @@ use Rattle.blocks.specs.declared.Found.{Found}
 use Rattle.blocks.specs.declared.Found.the-variants.{At, Outside}
 use Rattle.field.specs.Fields.{word16At, word32At, bytes16, bytes32, shortCount}
 use Rattle.field.proofs.Words.{two-bytes}
-use Rattle.carrying.specs.Ending.{Ending, done, refused, unfitted, atPlace}
+use Rattle.carrying.specs.Ending.{done, refused, atPlace}
 use Rattle.carrying.specs.Storing.{withData, shownAfter}
 use Rattle.carrying.proofs.Storing.{either-way-alike, at-any-place-alike, shown-after-a-store}
-use Rattle.fram_commands.specs.Windows.{overBorder, inFram}
+use Rattle.fram_commands.specs.Windows.{overBorder}
 use Rattle.fram_commands.specs.Peek.{peekRangeOf, peekOf}
 use Rattle.fram_commands.specs.Poke.{pokeOf}
 use Rattle.fram_commands.proofs.Ways.{a-place-is-where-its-address-says, peek-inside, peek-long}

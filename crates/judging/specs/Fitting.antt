@@ -64,12 +64,12 @@ setUpFit address limit l = lengthsFit address (framFits (l .bootloader) && framF
 abbrev pub framAsSetUp : ℕ → ℕ → Bool
 framAsSetUp size setUp = framFits size && eqb size setUp
 
+abbrev pub framsAsSetUp : Unit → Lengths → Bool
+framsAsSetUp u l = framAsSetUp (l .bootloader) (u .«bootloader_len») && framAsSetUp (l .fram) (u .«fram_len»)
+
 -- A receiver record with a count above 1,034 is 26, whatever the limit; then what comes after it.
 abbrev pub countFit : ℕ → Fit → Fit
 countFit count next = cond (leb count largestCount) next (Unfit BadCount)
-
-abbrev pub framsAsSetUp : Unit → Lengths → Bool
-framsAsSetUp u l = framAsSetUp (l .bootloader) (u .«bootloader_len») && framAsSetUp (l .fram) (u .«fram_len»)
 
 unfoldable pub stepFit : Unit → Lengths → Fit
 stepFit u l = lengthsFit (u .address) (framsAsSetUp u l) l (countFit (u .receiver .count) (limitFit (u .limit)))

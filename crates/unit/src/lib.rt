@@ -36,8 +36,8 @@ pub struct Stepped {
 const DATA_END: usize = 1031;
 
 // Sets a unit up: computes all sums, in bootloader mode with a fresh receiver, with bootloader FRAM locked or not, which it shows in
-// the diagnostics. A refused set-up hands back a record with unit address 0, so that every later call with it is refused. The limit is wider here than in the record, so that no number is cut to one
-// that would be taken.
+// the diagnostics. A refused set-up hands back a record with unit address 0, so that every later call with it is refused. The limit is
+// wider here than in the record, so that no number is cut to one that would be taken.
 pub fn set_up(
     address: u8,
     limit: usize,
