@@ -34,12 +34,12 @@ use Rattle.judging.specs.Judging.{largestMessage, withReceiver}
 use Rattle.replying.specs.Replies.{codeOf, polls, replyMessage}
 use Rattle.unit.specs.World.{World, lengthsOf, Outcome, withFrams, withMessage}
 use Rattle.unit.specs.Steps.{nobody, somebody, preparedFor, setUpAs, setUpOf, answered, stepOf}
-use Rattle.board.specs.declared.WheelUnit.{WheelUnit}
-use Rattle.board.specs.declared.WheelStepped.{WheelStepped}
-use Rattle.board.specs.declared.WheelPacked.{WheelPacked}
-use Rattle.board.specs.Face.{yesOut}
-use Rattle.board.specs.Records.{modeOut, lockIn, lockOut, unitIn, unitOut, Returned, returned, returnedBy}
-use Rattle.board.proofs.Settled.{a-record-comes-back}
+use Rattle.face.specs.declared.WheelUnit.{WheelUnit}
+use Rattle.face.specs.declared.WheelStepped.{WheelStepped}
+use Rattle.face.specs.declared.WheelPacked.{WheelPacked}
+use Rattle.face.specs.Face.{yesOut}
+use Rattle.face.specs.Records.{modeOut, lockIn, lockOut, unitIn, unitOut, Returned, returned, returnedBy}
+use Rattle.face.proofs.Settled.{a-record-comes-back}
 use Rattle.demands.specs.Calls.{Fed, lentTo, fedOf, bytesOf, delivering, Suits, AllSuit, Serves, Idle, Lending, its-memory, Own, own, ownOf, calledOf, Right, Inside}
 use Rattle.demands.specs.Locking.{locks}
 use Rattle.demands.specs.Leaving.{diagnosticsAfter, SetUpRefusal}

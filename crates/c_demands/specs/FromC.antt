@@ -11,11 +11,11 @@ use Rattle.carrying.specs.Held.{Frams}
 use Rattle.file_commands.specs.WriteFile.{judgeListOf, storage, storeListOf}
 use Rattle.unit.specs.World.{World}
 use Rattle.unit.specs.Steps.{setUpOf, stepOf}
-use Rattle.board.specs.declared.WheelUnit.{WheelUnit}
-use Rattle.board.specs.declared.WheelStepped.{WheelStepped}
-use Rattle.board.specs.declared.WheelPacked.{WheelPacked}
-use Rattle.board.specs.Face.{yesOut}
-use Rattle.board.specs.Records.{lockIn, lockOut, unitIn, unitOut, returned, returnedBy, packingBy}
+use Rattle.face.specs.declared.WheelUnit.{WheelUnit}
+use Rattle.face.specs.declared.WheelStepped.{WheelStepped}
+use Rattle.face.specs.declared.WheelPacked.{WheelPacked}
+use Rattle.face.specs.Face.{yesOut}
+use Rattle.face.specs.Records.{lockIn, lockOut, unitIn, unitOut, returned, returnedBy, packingBy}
 use Rattle.demands.specs.Calls.{Call, bytesOf}
 use Rattle.demands.specs.Locking.{locks}
 use Rattle.demands.specs.Leaving.{diagnosticsAfter}

@@ -1,5 +1,5 @@
 -- `board::wheel_set_up` meets its contract: what `unit::set_up` ensures, put into C's form. Assumes nothing.
-use Rattle.board.proofs.Passing.{a-set-up-passed-on}
+use Rattle.face.proofs.Passing.{a-set-up-passed-on}
 use borrow.Author.Needs.{needs}
 use Rattle.board.proofs.wheel_set_up.Statement.{statement}
 use Rattle.board.proofs.wheel_set_up.Tie as tie

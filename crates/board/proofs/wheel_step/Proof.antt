@@ -1,5 +1,5 @@
 -- `board::wheel_step` meets its contract: what `unit::step` ensures, put into C's form. Assumes nothing.
-use Rattle.board.proofs.Passing.{a-step-passed-on}
+use Rattle.face.proofs.Passing.{a-step-passed-on}
 use borrow.Author.Needs.{needs}
 use Rattle.board.proofs.wheel_step.Statement.{statement}
 use Rattle.board.proofs.wheel_step.Tie as tie

@@ -1,7 +1,7 @@
--- `board::converting::stepped_out` meets its contract: each field is the one meant. Assumes nothing.
+-- `face::converting::stepped_out` meets its contract: each field is the one meant. Assumes nothing.
 use borrow.Author.Needs.{needs}
-use Rattle.board.proofs.converting.stepped_out.Statement.{statement}
-use Rattle.board.proofs.converting.stepped_out.Tie as tie
+use Rattle.face.proofs.converting.stepped_out.Statement.{statement}
+use Rattle.face.proofs.converting.stepped_out.Tie as tie
 
 unit-out-requires : tie.Need-unit-out-requires
 unit-out-requires c κs = search needs

@@ -11,9 +11,9 @@ use Rattle.carrying.specs.declared.Mode.{Mode}
 use Rattle.carrying.specs.declared.Mode.the-variants.{Bootloader, Application}
 use Rattle.unit.specs.World.{World, Outcome}
 use Rattle.judging.specs.declared.Unit.{Unit}
-use Rattle.board.specs.declared.WheelStepped.{WheelStepped}
-use Rattle.board.specs.declared.WheelPacked.{WheelPacked}
-use Rattle.board.specs.Records.{modeIn, modeOut, placeIn, placeOut, lockIn, lockOut, unitIn, unitOut, Returned, returned, returnedBy, packingBy}
+use Rattle.face.specs.declared.WheelStepped.{WheelStepped}
+use Rattle.face.specs.declared.WheelPacked.{WheelPacked}
+use Rattle.face.specs.Records.{modeIn, modeOut, placeIn, placeOut, lockIn, lockOut, unitIn, unitOut, Returned, returned, returnedBy, packingBy}
 
 pub a-call-allows-one-outcome
     : (o : Outcome) (r s : WheelStepped) (v w : World)

@@ -1,16 +1,16 @@
--- `board::wheel_pack` meets its contract: what `line::packing::pack` ensures of each case of its answer, put into C's form. Assumes
+-- `face::packed` meets its contract: what `line::packing::pack` ensures of each case of its answer, put into C's form. Assumes
 -- nothing.
 use mathlib.Core.Path.{sym, ap, _∙_}
 use Rattle.line.specs.Packing.{packingOf}
 use borrow.Author.Needs.{needs}
-use Rattle.board.proofs.wheel_pack.Statement.{statement}
-use Rattle.board.proofs.wheel_pack.Tie as tie
+use Rattle.face.proofs.packed.Statement.{statement}
+use Rattle.face.proofs.packed.Tie as tie
 
 pack-requires : tie.Need-pack-requires
 pack-requires c κs = search needs
 
-enum-known-packed : tie.Need-enum-known-packed
-enum-known-packed c = search needs
+enum-known-sent : tie.Need-enum-known-sent
+enum-known-sent c = search needs
 
 enum-told : tie.Need-enum-told
 enum-told c = search needs
@@ -22,7 +22,7 @@ same-length : tie.Need-same-length
 same-length c = search needs
 
 returns : tie.Need-returns
-returns c = ap (λ p. packingOf p (c .before .before .before .before .before .pack .last .1 .0)) (sym (c .before .packed .given .1)) ∙ c .before .before .before .before .before .pack .ensures
+returns c = ap (λ p. packingOf p (c .before .before .before .before .before .pack .last .1 .0)) (sym (c .before .sent .given .1)) ∙ c .before .before .before .before .before .pack .ensures
 
 same-length-2 : tie.Need-same-length-2
 same-length-2 c = search needs
@@ -36,12 +36,12 @@ same-length-3 c = search needs
 returns-3 : tie.Need-returns-3
 returns-3 c = ap (λ p. packingOf p (c .before .before .before .before .pack .last .1 .0)) (sym (c .enum-told2 .given .1)) ∙ c .before .before .before .before .pack .ensures
 
-pub wheel-pack-spec : {M : Type 1} → statement M
-wheel-pack-spec =
+pub packed-spec : {M : Type 1} → statement M
+packed-spec =
     tie.close
     (tie.spec
     pack-requires
-    enum-known-packed
+    enum-known-sent
     enum-told
     enum-told-2
     same-length

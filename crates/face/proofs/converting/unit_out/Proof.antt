@@ -1,7 +1,7 @@
--- `board::converting::unit_out` meets its contract: each field is the one meant. Assumes nothing.
+-- `face::converting::unit_out` meets its contract: each field is the one meant. Assumes nothing.
 use borrow.Author.Needs.{needs}
-use Rattle.board.proofs.converting.unit_out.Statement.{statement}
-use Rattle.board.proofs.converting.unit_out.Tie as tie
+use Rattle.face.proofs.converting.unit_out.Statement.{statement}
+use Rattle.face.proofs.converting.unit_out.Tie as tie
 
 mode-out-requires : tie.Need-mode-out-requires
 mode-out-requires c κs = search needs

@@ -1,8 +1,8 @@
--- `board::converting::place_in` meets its contract, by its tests. Assumes nothing.
+-- `face::converting::place_in` meets its contract, by its tests. Assumes nothing.
 use borrow.Author.Tests.{eq-eqb, ne-eqb}
-use Rattle.board.specs.Records.{placeIn}
-use Rattle.board.proofs.converting.place_in.Statement.{statement}
-use Rattle.board.proofs.converting.place_in.Tie as tie
+use Rattle.face.specs.Records.{placeIn}
+use Rattle.face.proofs.converting.place_in.Statement.{statement}
+use Rattle.face.proofs.converting.place_in.Tie as tie
 
 returns : tie.Need-returns
 unfolding placeIn

@@ -9,9 +9,9 @@ use Rattle.unit.specs.World.{World, Outcome, outcomeOf}
 use Rattle.unit.specs.Steps.{setUpOf, stepOf}
 use Rattle.judging.specs.declared.Unit.{Unit}
 use Rattle.unit.specs.declared.Stepped.{Stepped}
-use Rattle.board.specs.declared.WheelStepped.{WheelStepped}
-use Rattle.board.specs.Face.{yesOut}
-use Rattle.board.specs.Records.{steppedOut, returned, returnedBy}
+use Rattle.face.specs.declared.WheelStepped.{WheelStepped}
+use Rattle.face.specs.Face.{yesOut}
+use Rattle.face.specs.Records.{steppedOut, returned, returnedBy}
 
 passed-on
     : (r : WheelStepped) (stepped : Stepped) (after : World) (o : Outcome)

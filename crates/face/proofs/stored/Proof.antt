@@ -1,9 +1,9 @@
--- `board::wheel_store_list` meets its contract: what `store_list` ensures of each case of its answer, by the case's number. Assumes nothing.
+-- `face::stored` meets its contract: what `store_list` ensures of each case of its answer, by the case's number. Assumes nothing.
 use borrow.Author.Needs.{needs}
 use Rattle.file_commands.specs.declared.write_file.Storing.the-variants.{Stored, Unfit, BadEdac}
-use Rattle.board.proofs.Passing.{a-storing-passed-on}
-use Rattle.board.proofs.wheel_store_list.Statement.{statement}
-use Rattle.board.proofs.wheel_store_list.Tie as tie
+use Rattle.face.proofs.Passing.{a-storing-passed-on}
+use Rattle.face.proofs.stored.Statement.{statement}
+use Rattle.face.proofs.stored.Tie as tie
 
 store-list-requires : tie.Need-store-list-requires
 store-list-requires c κs = search needs
@@ -35,8 +35,8 @@ same-length-3 c = search needs
 returns-3 : tie.Need-returns-3
 returns-3 c = a-storing-passed-on _ BadEdac _ _ (c .before .before .before .before .store-list .ensures) (c .enum-told3 .given .1)
 
-pub wheel-store-list-spec : {M : Type 1} → statement M
-wheel-store-list-spec =
+pub stored-spec : {M : Type 1} → statement M
+stored-spec =
     tie.close
     (tie.spec
     store-list-requires

@@ -1,8 +1,8 @@
--- `board::converting::mode_in` meets its contract, by its test. Assumes nothing.
+-- `face::converting::mode_in` meets its contract, by its test. Assumes nothing.
 use borrow.Author.Tests.{eq-eqb, ne-eqb}
-use Rattle.board.specs.Records.{modeIn}
-use Rattle.board.proofs.converting.mode_in.Statement.{statement}
-use Rattle.board.proofs.converting.mode_in.Tie as tie
+use Rattle.face.specs.Records.{modeIn}
+use Rattle.face.proofs.converting.mode_in.Statement.{statement}
+use Rattle.face.proofs.converting.mode_in.Tie as tie
 
 returns : tie.Need-returns
 unfolding modeIn

@@ -13,9 +13,9 @@ use Rattle.answer.specs.Answers.{numberOf, sentOf}
 use Rattle.unit.specs.World.{World, Outcome}
 use Rattle.judging.specs.declared.Unit.{Unit}
 use Rattle.answer.specs.declared.Answer.{Answer}
-use Rattle.board.specs.declared.WheelUnit.{WheelUnit}
-use Rattle.board.specs.declared.WheelStepped.{WheelStepped}
-use Rattle.board.specs.declared.WheelPacked.{WheelPacked}
+use Rattle.face.specs.declared.WheelUnit.{WheelUnit}
+use Rattle.face.specs.declared.WheelStepped.{WheelStepped}
+use Rattle.face.specs.declared.WheelPacked.{WheelPacked}
 
 -- 0 is bootloader mode, and any other number application mode.
 unfoldable pub modeIn : ℕ → Mode

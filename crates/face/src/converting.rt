@@ -9,7 +9,7 @@ use line::receiver::Receiver;
 use unit::Stepped;
 use unit::Unit;
 ghost use mathlib.Core.Path.{_≡_};
-ghost use Rattle.board.specs.Records.{modeIn, modeOut, placeIn, placeOut, lockIn, lockOut, unitIn, unitOut, steppedOut};
+ghost use Rattle.face.specs.Records.{modeIn, modeOut, placeIn, placeOut, lockIn, lockOut, unitIn, unitOut, steppedOut};
 
 fn mode_in(number: u8) -> Mode
     ensures { λ r. ⌜ r ≡ modeIn number ⌝ }

@@ -4,8 +4,8 @@ use mathlib.Core.Bool.{Bool, true, false}
 use mathlib.Core.Option.{Option, none, some}
 use Rattle.crc.specs.declared.Part.{Part}
 use Rattle.crc.specs.Joining.{Joining}
-use Rattle.board.specs.declared.WheelPart.{WheelPart}
-use Rattle.board.specs.declared.WheelJoined.{WheelJoined}
+use Rattle.face.specs.declared.WheelPart.{WheelPart}
+use Rattle.face.specs.declared.WheelJoined.{WheelJoined}
 
 -- A part as it comes from C.
 abbrev pub partIn : WheelPart → Part

@@ -1,7 +1,7 @@
--- `board::converting::unit_in` meets its contract: each field is the one meant. Assumes nothing.
+-- `face::converting::unit_in` meets its contract: each field is the one meant. Assumes nothing.
 use borrow.Author.Needs.{needs}
-use Rattle.board.proofs.converting.unit_in.Statement.{statement}
-use Rattle.board.proofs.converting.unit_in.Tie as tie
+use Rattle.face.proofs.converting.unit_in.Statement.{statement}
+use Rattle.face.proofs.converting.unit_in.Tie as tie
 
 mode-in-requires : tie.Need-mode-in-requires
 mode-in-requires c κs = search needs
