@@ -4,3 +4,4 @@ pub mod Refreshing
 pub mod Ranges
 pub mod Crossing
 pub mod Turns
+pub mod Counting

@@ -1,2 +1,3 @@
 pub mod Fram
 pub mod Crossing
+pub mod Cost

@@ -1,4 +1,5 @@
 // FRAM with one kept sum for each block of 256 bytes: bootloader FRAM and user FRAM are each one.
+pub mod cost;
 mod gap;
 
 use crate::gap::across;

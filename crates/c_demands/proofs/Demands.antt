@@ -15,6 +15,7 @@ use Rattle.line.specs.Receiver.{opened}
 use Rattle.line.proofs.Laying.{a-short-reply-buffer-is-refused, a-short-message-is-refused, a-long-message-is-refused, a-message-of-legal-length-is-packed}
 use Rattle.field.specs.Fields.{bytes16, bytes32}
 use Rattle.memory.specs.Bytes.{stretch, begun}
+use Rattle.blocks.specs.Cost.{costOf}
 use Rattle.read_only.specs.ReadOnly.{KeepsReadOnly}
 use Rattle.memory.proofs.Tests.{either-side}
 use Rattle.read_only.proofs.Keeping.{kept-at-first, also-kept}
@@ -51,9 +52,10 @@ use Rattle.demands.proofs.Orders.{a-sent-command-is-carried-out, a-command-that
 use Rattle.demands.proofs.DemandThree.{the-limit-stays-and-the-count-stops-above-it, after-any-calls-the-sums-are-right, the-CRC-sent-is-fresh}
 use Rattle.demands.proofs.Limits.{with-no-limit-no-byte-is-served}
 use Rattle.demands.proofs.Keeping.{a-step-keeps-read-only-bytes, storing-keeps-read-only-bytes, a-set-up-keeps-edac}
+use Rattle.demands.proofs.Costing.{what-every-answer-costs, a-set-up-costs-nothing, a-CRC-sent-costs-its-range}
 use Rattle.demands.proofs.Locked.{once-locked-no-bytes-change-bootloader-FRAM}
 use Rattle.demands.proofs.Asking.{done-exactly-where-judged-fit, the-command-leaves-what-storing-leaves}
-use Rattle.c_demands.specs.FromC.{FromC, Steps, SetsUp, callOf, callsOf, LeavesInC, OnTheLine, Packs, bytesFromC, toBeSent, numbersOf, Follow, lastUnit, lastFrams, Judges, Stores, AnyFromC, setting-up, stepping, storing, OnOneEdac, lastEdac}
+use Rattle.c_demands.specs.FromC.{FromC, Steps, SetsUp, callOf, callsOf, LeavesInC, CostsInC, OnTheLine, Packs, bytesFromC, toBeSent, numbersOf, Follow, lastUnit, lastFrams, Judges, Stores, AnyFromC, setting-up, stepping, storing, OnOneEdac, lastEdac}
 
 -- ---- lists
 
@@ -124,6 +126,19 @@ module _ (u : WheelUnit) (c : FromC) (steps : Steps u c) where
         limit = ap (λ (r : WheelUnit). r .limit) back ∙ leaves .limit;
       }
 
+  -- 02, T-13. What it says that it cost, for any record, byte and lent buffers of any length.
+  pub what-every-call-from-C-costs : CostsInC c
+  what-every-call-from-C-costs =
+      let costs = what-every-answer-costs (unitIn u) (c .byte) (c .lent) in
+      let cost : c .back .cost ≡ o .cost = ap (λ (r : Returned). r .stepped .cost) steps in
+      record {
+        nothing-unless-a-command-is-done = λ one two. cost ∙ costs .nothing-unless-a-command-is-done (λ e. one (number ∙ e)) (λ e. two (number ∙ e));
+        nothing-unless-it-is-CRC = λ other.
+            cost ∙ costs .nothing-unless-it-is-CRC (λ e. other (ap (λ (w : World). codeOf (getD (w .buffers .message) 2 0)) left ∙ e));
+        at-most = omega (arith, cost, costs .at-most);
+        for-one-memory-at-most = omega (arith, cost, costs .for-one-memory-at-most);
+      }
+
   -- 02, T-06. A record with a limit outside 260 to 1,028 is refused, whatever else is lent, and nothing that was lent changes.
   pub with-no-limit-no-byte-from-C-is-served : isLimit (u .limit) ≡ false → (20 ≤ c .back .answer) × (c .left ≡ c .lent)
   with-no-limit-no-byte-from-C-is-served none =
@@ -186,6 +201,14 @@ module _ (u : WheelUnit) (message : List ℕ) (calls : List FromC) (c : FromC) (
         ap (λ (r : Returned). take (r .stepped .sent) (r .world .buffers .reply)) (the-line-from-C u message calls c on .1)
         ∙ a-command-that-is-done-sends-its-data (unitIn u) message source control field (callsOf calls) (callOf c) sends polled reply after came
 
+  -- 02, T-13. A CRC command, with poll set or clear, for a range inside one of the FRAMs that the last call lends, whatever sums are kept, says beside
+  -- its answer what its range costs: its bytes in blocks only partly covered, plus the blocks wholly covered.
+  pub a-CRC-from-C-costs-its-range : (source control first last : ℕ) → Sends (unitIn u) message source control (bytes32 first ++ bytes32 last) (callsOf calls) (callOf c)
+      → codeOf control ≡ 0x06 → (which : Which) → Inside which (c .lent .frams) first last → c .back .cost ≡ costOf (first - firstOf which) (last + 1 - firstOf which)
+  a-CRC-from-C-costs-its-range source control first last sends code which range =
+      ap (λ (r : Returned). r .stepped .cost) (the-line-from-C u message calls c on .1)
+      ∙ a-CRC-sent-costs-its-range (unitIn u) message source control first last (callsOf calls) (callOf c) sends code which range
+
   -- The round trip. What `wheel_pack` packs, if it is no longer than the unit's limit allows, given so to a unit that has nothing open, by calls
   -- that are served, stands in the message buffer byte for byte when the last byte has come, whether the unit takes it for sound or not.
   pub what-is-packed-from-C-is-received-back : (m before : List ℕ) (said : WheelPacked) (packed : List ℕ) → Packs m before said packed → said .answer ≡ 0
@@ -230,10 +253,10 @@ set-up-so address limit locked w none = apart (setUpFit address limit (lengthsOf
     apart (Unfit answer) e z = absurd (a-refused-set-up-is-no-0 limit (numberOf answer) (a-refused-set-up-has-its-number address limit (lengthsOf w) answer e) z)
 
 -- Demand 1, of `wheel_set_up`: 0 computes all sums, writes the low byte of diagnostic 0x06 and changes nothing else that is lent; 20 to 25 and 29
--- change nothing at all.
+-- change nothing at all. Neither costs anything.
 pub what-a-set-up-from-C-leaves : (address limit locked : ℕ) (lent : World) (back : WheelStepped) (after : World) → SetsUp address limit locked lent back after
     → (back .answer ≡ 0 → (back .unit ≡ unitOut (somebody address limit (lockIn locked) lent)) × (after ≡ preparedFor (lockIn locked) lent))
-    × ((back .answer ≡ 0 → ⊥) → SetUpRefusal limit (back .answer) × (back .unit ≡ unitOut nobody) × (after ≡ lent))
+    × ((back .answer ≡ 0 → ⊥) → SetUpRefusal limit (back .answer) × (back .unit ≡ unitOut nobody) × (after ≡ lent)) × (back .cost ≡ 0)
 what-a-set-up-from-C-leaves address limit locked lent back after sets-up =
     let leaves = what-set-up-leaves address limit (lockIn locked) lent in
     let o = setUpOf address limit (lockIn locked) lent in
@@ -244,6 +267,7 @@ what-a-set-up-from-C-leaves address limit locked lent back after sets-up =
       (λ other.
           let all = leaves .refused (λ none. other (number ∙ none)) in
           (subst (SetUpRefusal limit) (sym number) (all .0), unit ∙ ap unitOut (all .1), left ∙ all .2)),
+      ap (λ (r : Returned). r .stepped .cost) sets-up ∙ a-set-up-costs-nothing address limit (lockIn locked) lent,
     )
 
 -- `wheel_set_up` answered 0. After any calls of `wheel_step`, each with the record that the one before gave back, and with FRAMs and sums

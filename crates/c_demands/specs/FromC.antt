@@ -1,14 +1,15 @@
 -- Calls of the functions of include/wheel.h, as their caller sees them: 01, "The unit and its neighbours" and "One byte in, one answer
 -- out". Assumes nothing.
-use Prim.Native.Nat.{ℕ, _≤_}
+use Prim.Native.Nat.{ℕ, _+_, _≤_, max}
 use mathlib.Core.Path.{_≡_}
 use mathlib.Core.Bool.{_||_}
 use mathlib.Core.List.{List, [], _∷_, _++_}
-use lib.ListN.{take}
+use lib.ListN.{length, take, getD}
 use Rattle.line.specs.Packing.{packOf}
 use Rattle.memory.specs.Bytes.{begun}
 use Rattle.carrying.specs.Held.{Frams}
 use Rattle.file_commands.specs.WriteFile.{judgeListOf, storage, storeListOf}
+use Rattle.replying.specs.Replies.{codeOf}
 use Rattle.unit.specs.World.{World}
 use Rattle.unit.specs.Steps.{setUpOf, stepOf}
 use Rattle.face.specs.declared.WheelUnit.{WheelUnit}
@@ -61,6 +62,14 @@ pub record LeavesInC (u : WheelUnit) (c : FromC) : Type 0 where
   pub bootloader-length : c .back .unit .«bootloader_len» ≡ u .«bootloader_len»
   pub fram-length : c .back .unit .«fram_len» ≡ u .«fram_len»
   pub limit : c .back .unit .limit ≡ u .limit
+
+-- What it says that it cost (02, T-13): 0 for every answer but a CRC command that is done, and for one memory at most 1,532, or 508 above the number
+-- of blocks of the larger FRAM.
+pub record CostsInC (c : FromC) : Type 0 where
+  pub nothing-unless-a-command-is-done : (c .back .answer ≡ 1 → ⊥) → (c .back .answer ≡ 2 → ⊥) → c .back .cost ≡ 0
+  pub nothing-unless-it-is-CRC : (codeOf (getD (c .left .buffers .message) 2 0) ≡ 0x06 → ⊥) → c .back .cost ≡ 0
+  pub at-most : c .back .cost ≤ max (length (c .lent .frams .bootloader .sums)) (length (c .lent .frams .user .sums)) + 508
+  pub for-one-memory-at-most : c .back .cost ≤ 1532
 
 -- ---- demand 2: bytes on the line, one by one
 

@@ -29,6 +29,12 @@ pub data Ending (M : Type 0) : Type 0 where
   refused : Ending M
   unfitted : Ending M
 
+-- Which of the three, as a handler says it: of what is done, how many bytes the reply's data has.
+abbrev pub endedOf : {M : Type 0} → Ending M → Ended
+endedOf (done bytes after) = Done (length bytes)
+endedOf refused = Refused
+endedOf unfitted = Unfitted
+
 -- What a handler leaves: what its command came to, the reply buffer and the memory that was lent to it.
 pub record Left (M : Type 0) : Type 0 where
   pub ended : Ended

@@ -5,3 +5,4 @@ pub mod Room
 pub mod Locking
 pub mod Settled
 pub mod Examples
+pub mod Costs

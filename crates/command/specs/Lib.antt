@@ -2,3 +2,4 @@ pub mod Ping
 pub mod Init
 pub mod Diagnostic
 pub mod Command
+pub mod Cost

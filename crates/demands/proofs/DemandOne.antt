@@ -15,10 +15,12 @@ use Rattle.line.specs.Receiver.{receiveOf}
 use Rattle.memory.specs.Bytes.{begun}
 use Rattle.memory.specs.Counts.{countedUp}
 use Rattle.memory.proofs.Stretches.{the-written-part-is-handed-back}
+use Rattle.carrying.specs.declared.Ended.the-variants as came
 use Rattle.carrying.specs.Ending.{Ending, done, refused, unfitted}
 use Rattle.carrying.specs.Held.{Held}
 use Rattle.carrying.proofs.Room.{either-way}
 use Rattle.command.specs.Command.{commandOf}
+use Rattle.command.specs.Cost.{commandCost}
 use Rattle.command.proofs.Locking.{Marks, or-not, what-a-command-marks}
 use Rattle.answer.specs.declared.Answer.{Answer}
 use Rattle.answer.specs.declared.Answer.the-variants.{Taken, Acked, Done, Nacked, Refused, Framing, Runt, Oversize, BadCrc, Elsewhere, Unfitted, BadAddress, BadEdac, BadFram, BadSums, BadDiagnostics, BadBuffers, BadCount, BadLimit}
@@ -29,7 +31,7 @@ use Rattle.judging.specs.declared.fitting.Fit.the-variants.{Fits, Unfit}
 use Rattle.judging.specs.Fitting.{setUpFit, lengthsFit, stepFit}
 use Rattle.judging.specs.Judging.{firstCount, largestMessage, withReceiver, judgeOf}
 use Rattle.replying.specs.Replies.{polls, codeOf, replyMessage, Said, saying, saidOf}
-use Rattle.unit.specs.World.{World, lengthsOf, Outcome, outcome, withStanding, withMessage, withDiagnostics, withReply, heldOf, withHeld}
+use Rattle.unit.specs.World.{World, lengthsOf, Outcome, outcome, costing, withStanding, withMessage, withDiagnostics, withReply, heldOf, withHeld}
 use Rattle.unit.specs.Steps.{nobody, setUpAs, setUpOf, answered, servedOf, stepOf}
 use Rattle.demands.specs.Locking.{locks}
 use Rattle.demands.specs.Leaving.{countsAfter, Leaves, SetUpLeaves}
@@ -97,7 +99,7 @@ module _ (u : Unit) (w : World) (receiver : Receiver) (message : List ℕ) where
       → Leaves u locking w (answered next destination source control field o heard)
   unfolding answered saidOf saying
   a-command destination source control field locking (done bytes changed) marks =
-      either-way (λ (s : Said). Leaves u locking w (outcome (withStanding next (changed .standing)) (s .answer) (withReply (withHeld heard changed) (s .reply)))) (polls control) _ _
+      either-way (λ (s : Said). Leaves u locking w (costing (commandCost (codeOf control) (came.Done (length bytes)) field) (outcome (withStanding next (changed .standing)) (s .answer) (withReply (withHeld heard changed) (s .reply))))) (polls control) _ _
       (λ _. record {
         nothing-by-a-refused-call = λ high. absurd (omega arith);
         memory-unless-a-command-is-done = λ one two. absurd (one refl);
@@ -121,7 +123,7 @@ module _ (u : Unit) (w : World) (receiver : Receiver) (message : List ℕ) where
         limit = refl;
       })
   a-command destination source control field locking refused marks =
-      either-way (λ (s : Said). Leaves u locking w (outcome next (s .answer) (withReply heard (s .reply)))) (polls control) _ _
+      either-way (λ (s : Said). Leaves u locking w (costing (commandCost (codeOf control) came.Refused field) (outcome next (s .answer) (withReply heard (s .reply))))) (polls control) _ _
       (λ _. record {
         nothing-by-a-refused-call = λ high. absurd (omega arith);
         memory-unless-a-command-is-done = λ _ _. (refl, refl, refl, refl);

@@ -281,8 +281,7 @@ in-blocks size right = eqb-true (size % 256) 0 (both (leb 256 size && leb size 2
 both-yes : {a b : Bool} → a ≡ true → b ≡ true → (a && b) ≡ true
 both-yes {a} {b} p q = ap₂ _&&_ p q
 
-module _ (which : Which) (blocks : ℕ) (now : Frams) (right : Right (framOf which now)) (whole : length (framOf which now .fram) ≡ blockStart blocks)
-    (small : length (framOf which now .fram) ≤ 262144) (first last : ℕ) (range : Inside which now first last) where
+module _ (which : Which) (now : Frams) (small : length (framOf which now .fram) ≤ 262144) (first last : ℕ) (range : Inside which now first last) where
   abbrev start : ℕ
   start = firstOf which
 
@@ -292,18 +291,9 @@ module _ (which : Which) (blocks : ℕ) (now : Frams) (right : Right (framOf whi
   abbrev asking : List ℕ
   asking = bytes32 first ++ bytes32 last
 
-  fresh-range : rangeSum memory (first - start) (first - start + rangeSize first last) ≡ sumOf (stretch (first - start) (last - first + 1) (memory .fram))
-  fresh-range =
-      let starts = range .starts in
-      let forward = range .forward in
-      let ends = range .ends in
-      let wide : first - start + rangeSize first last - (first - start) ≡ last - first + 1 = omega arith in
-      ap (λ s. rangeSum (kept (memory .fram) s) (first - start) (first - start + rangeSize first last)) right
-      ∙ a-range-under-right-sums-is-fresh (memory .fram) blocks (first - start) (first - start + rangeSize first last) whole (omega arith) (omega arith)
-      ∙ ap (λ n. sumOf (stretch (first - start) n (memory .fram))) wide
-
-  a-fresh-answer : crcByAddress now asking ≡ done (asking ++ bytes16 (sumOf (stretch (first - start) (last - first + 1) (memory .fram)))) tt
-  a-fresh-answer =
+  -- whatever sums are kept, a CRC of a range inside is done, with what they give
+  pub a-CRC-inside-is-done : crcByAddress now asking ≡ done (asking ++ bytes16 (rangeSum memory (first - start) (first - start + rangeSize first last))) tt
+  a-CRC-inside-is-done =
       let starts = range .starts in
       let forward = range .forward in
       let ends = range .ends in
@@ -315,14 +305,28 @@ module _ (which : Which) (blocks : ℕ) (now : Frams) (right : Right (framOf whi
       let named = a-range-inside-names-its-FRAM which asking (rangeSize (word32At asking 0) (word32At asking 4)) (length (memory .fram)) (omega arith) (omega arith) (omega arith) small in
       a-CRC-where-it-is-named asking which (named .0) now
       ∙ crc-inside start memory asking refl (omega arith) (named .1) (first - start) there
-      ∙ ap (λ n. done (asking ++ bytes16 n) tt)
-      (ap₂ (λ f l. rangeSum memory (first - start) (first - start + rangeSize f l)) one two ∙ fresh-range)
+      ∙ ap (λ n. done (asking ++ bytes16 n) tt) (ap₂ (λ f l. rangeSum memory (first - start) (first - start + rangeSize f l)) one two)
 
-  the-command-answers-it : (room : ℕ) (s : Standing) (edac : List ℕ) → commandOf room 0x06 (held s edac now) asking
-      ≡ done (asking ++ bytes16 (sumOf (stretch (first - start) (last - first + 1) (memory .fram)))) (held s edac now)
-  the-command-answers-it room s edac =
-      in-either-mode room 0x06 (held s edac now) asking 0x06 (reading (held s edac now) (crcByAddress now asking)) refl refl
-      ∙ ap (reading (held s edac now)) a-fresh-answer
+  -- under right sums that is the CRC of the bytes
+  module _ (blocks : ℕ) (right : Right (framOf which now)) (whole : length (framOf which now .fram) ≡ blockStart blocks) where
+    fresh-range : rangeSum memory (first - start) (first - start + rangeSize first last) ≡ sumOf (stretch (first - start) (last - first + 1) (memory .fram))
+    fresh-range =
+        let starts = range .starts in
+        let forward = range .forward in
+        let ends = range .ends in
+        let wide : first - start + rangeSize first last - (first - start) ≡ last - first + 1 = omega arith in
+        ap (λ s. rangeSum (kept (memory .fram) s) (first - start) (first - start + rangeSize first last)) right
+        ∙ a-range-under-right-sums-is-fresh (memory .fram) blocks (first - start) (first - start + rangeSize first last) whole (omega arith) (omega arith)
+        ∙ ap (λ n. sumOf (stretch (first - start) n (memory .fram))) wide
+
+    a-fresh-answer : crcByAddress now asking ≡ done (asking ++ bytes16 (sumOf (stretch (first - start) (last - first + 1) (memory .fram)))) tt
+    a-fresh-answer = a-CRC-inside-is-done ∙ ap (λ n. done (asking ++ bytes16 n) tt) fresh-range
+
+    the-command-answers-it : (room : ℕ) (s : Standing) (edac : List ℕ) → commandOf room 0x06 (held s edac now) asking
+        ≡ done (asking ++ bytes16 (sumOf (stretch (first - start) (last - first + 1) (memory .fram)))) (held s edac now)
+    the-command-answers-it room s edac =
+        in-either-mode room 0x06 (held s edac now) asking 0x06 (reading (held s edac now) (crcByAddress now asking)) refl refl
+        ∙ ap (reading (held s edac now)) a-fresh-answer
 
 -- ---- after any calls on a unit that was set up
 
@@ -349,15 +353,11 @@ module _ (address limit : ℕ) (locked : Bool) (w : World) (e : setUpFit address
       commandOf (now .unit .limit) 0x06 here (bytes32 first ++ bytes32 last)
       ≡ done ((bytes32 first ++ bytes32 last) ++ bytes16 (sumOf (stretch (first - firstOf which) (last - first + 1) (framOf which (now .frams) .fram)))) here
   the-CRC-answered-is-fresh ofBootloader edac diagnostics first last range =
-      the-command-answers-it ofBootloader (length (w .frams .bootloader .sums)) (now .frams) (goes .good .0 .0)
-      (goes .good .0 .1 ∙ a-served-set-up-fits address limit (lengthsOf w) e .bootloader-sums-fit)
-      (subst (λ n. n ≤ 262144) (sym (goes .good .0 .1)) (no-longer (length (w .frams .bootloader .fram)) (fits .0)))
-      first last range (now .unit .limit) (standing (now .unit .mode) (now .unit .locked) diagnostics) edac
+      the-command-answers-it ofBootloader (now .frams) (subst (λ n. n ≤ 262144) (sym (goes .good .0 .1)) (no-longer (length (w .frams .bootloader .fram)) (fits .0))) first last range
+      (length (w .frams .bootloader .sums)) (goes .good .0 .0) (goes .good .0 .1 ∙ a-served-set-up-fits address limit (lengthsOf w) e .bootloader-sums-fit) (now .unit .limit) (standing (now .unit .mode) (now .unit .locked) diagnostics) edac
   the-CRC-answered-is-fresh ofUser edac diagnostics first last range =
-      the-command-answers-it ofUser (length (w .frams .user .sums)) (now .frams) (goes .good .1 .0)
-      (goes .good .1 .1 ∙ a-served-set-up-fits address limit (lengthsOf w) e .sums-fit)
-      (subst (λ n. n ≤ 262144) (sym (goes .good .1 .1)) (no-longer (length (w .frams .user .fram)) (fits .1)))
-      first last range (now .unit .limit) (standing (now .unit .mode) (now .unit .locked) diagnostics) edac
+      the-command-answers-it ofUser (now .frams) (subst (λ n. n ≤ 262144) (sym (goes .good .1 .1)) (no-longer (length (w .frams .user .fram)) (fits .1))) first last range
+      (length (w .frams .user .sums)) (goes .good .1 .0) (goes .good .1 .1 ∙ a-served-set-up-fits address limit (lengthsOf w) e .sums-fit) (now .unit .limit) (standing (now .unit .mode) (now .unit .locked) diagnostics) edac
 
   -- Its limit is the one that was set up, and its count never passes limit + 6 (02, T-06); so neither 26 nor 29 ever refuses it.
   pub the-limit-stays-and-the-count-stops-above-it : (now .unit .limit ≡ limit) × (now .unit .receiver .count ≤ limit + 6)

@@ -13,3 +13,4 @@ pub mod Locked
 pub mod Border
 pub mod Worked
 pub mod Settled
+pub mod Costing

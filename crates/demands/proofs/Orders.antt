@@ -20,6 +20,7 @@ use Rattle.answer.specs.declared.Answer.the-variants.{Elsewhere}
 use Rattle.answer.specs.Answers.{numberOf}
 use Rattle.judging.specs.declared.Unit.{Unit}
 use Rattle.judging.specs.Judging.{withReceiver}
+use Rattle.judging.specs.declared.Lengths.{Lengths}
 use Rattle.judging.specs.declared.fitting.Fit.the-variants.{Fits}
 use Rattle.judging.specs.Fitting.{framFits, framAsSetUp, framsAsSetUp}
 use Rattle.judging.proofs.Serving.{both, all-passed, a-served-step-fits}
@@ -42,6 +43,17 @@ done-is-no-fault e = let z : _≡_ {A = ℕ} 0 1 = cc in absurd (omega arith)
 -- how long an FRAM can be
 pub no-longer : (size : ℕ) → framFits size ≡ true → size ≤ 262144
 no-longer size fits = leb-true size 262144 (both (leb 256 size) (leb size 262144) (both (leb 256 size && leb size 262144) (eqb (size % 256) 0) fits .0) .1)
+
+-- lengths that are those set up
+pub as-set-up-no-longer : (u : Unit) (l : Lengths) → framsAsSetUp u l ≡ true → (l .bootloader ≤ 262144) × (l .fram ≤ 262144)
+as-set-up-no-longer u l fits =
+    let each = both (framAsSetUp (l .bootloader) (u .«bootloader_len»)) (framAsSetUp (l .fram) (u .«fram_len»)) fits in (
+      of-one (l .bootloader) (u .«bootloader_len») (each .0),
+      of-one (l .fram) (u .«fram_len») (each .1),
+    )
+  where
+    of-one : (size setUp : ℕ) → framAsSetUp size setUp ≡ true → size ≤ 262144
+    of-one size setUp is = no-longer size (both (framFits size) (eqb size setUp) is .0)
 
 -- what a WRITE FILE comes to in application mode
 pub a-WRITE-FILE-comes-to : (u : Unit) (c : Call) (control : ℕ) (list : List ℕ) → codeOf control ≡ 0x08 → u .mode ≡ Application
@@ -88,18 +100,14 @@ module _ (u : Unit) (message : List ℕ) (source control : ℕ) (field : List �
   pub a-lent-FRAM-is-no-longer : (which : Which) → length (framOf which (c .lent .frams) .fram) ≤ 262144
   a-lent-FRAM-is-no-longer which = by which
     where
-      fits : framsAsSetUp u (lentLengths (length message) c) ≡ true
-      fits = all-passed (u .address) (framsAsSetUp u (lentLengths (length message) c)) (lentLengths (length message) c) Fits (sends .suits) .fram-tested
-
-      each : (framAsSetUp (length (c .lent .frams .bootloader .fram)) (u .«bootloader_len») ≡ true) × (framAsSetUp (length (c .lent .frams .user .fram)) (u .«fram_len») ≡ true)
-      each = both (framAsSetUp (length (c .lent .frams .bootloader .fram)) (u .«bootloader_len»)) (framAsSetUp (length (c .lent .frams .user .fram)) (u .«fram_len»)) fits
-
-      of-one : (size setUp : ℕ) → framAsSetUp size setUp ≡ true → size ≤ 262144
-      of-one size setUp is = no-longer size (both (framFits size) (eqb size setUp) is .0)
+      each : (length (c .lent .frams .bootloader .fram) ≤ 262144) × (length (c .lent .frams .user .fram) ≤ 262144)
+      each =
+          as-set-up-no-longer u (lentLengths (length message) c)
+          (all-passed (u .address) (framsAsSetUp u (lentLengths (length message) c)) (lentLengths (length message) c) Fits (sends .suits) .fram-tested)
 
       by : (x : Which) → length (framOf x (c .lent .frams) .fram) ≤ 262144
-      by ofBootloader = of-one (length (c .lent .frams .bootloader .fram)) (u .«bootloader_len») (each .0)
-      by ofUser = of-one (length (c .lent .frams .user .fram)) (u .«fram_len») (each .1)
+      by ofBootloader = each .0
+      by ofUser = each .1
 
   -- an answer of 1 or 2 is that of a command that is done
   answered-so : (o : Ending Held) → numberOf (answered (withReceiver u opened) (u .address) source control field o laid .answer) ≤ 2

@@ -4,7 +4,7 @@ use Rattle.unit.specs.declared.Stepped.{Stepped}
 use Rattle.unit.specs.World.{World, Outcome, outcomeOf}
 
 handed : Outcome → Stepped
-handed o = record { unit = o .unit; answer = o .answer }
+handed o = record { unit = o .unit; answer = o .answer; cost = o .cost }
 
 -- The contracts of `set_up` and `step` are one equation each: what is handed back, with all that was lent, is the outcome that the
 -- definition gives. Two that satisfy it are equal in all of it.

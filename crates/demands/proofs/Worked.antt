@@ -1,6 +1,7 @@
 -- 01's small examples hold: each by computation from the definitions. Assumes nothing.
 use mathlib.Core.Path.{refl}
-use Rattle.crc.specs.Sum.{bitStep, bitSteps, byteStep, sumFrom, sumOf}
+use Rattle.crc.specs.Sum.{bitStep, bitSteps, byteStep, sumFrom, sumOf, carried}
+use Rattle.crc.specs.Joining.{joinedOf, joinAll}
 use Rattle.crc.proofs.Examples as sum
 use Rattle.line.proofs.Examples as line
 use Rattle.line.specs.Receiver.{receiveOf, insideOf, afterEscapeOf, closedOf, storedOf, countedOf}
@@ -12,10 +13,13 @@ use Rattle.read_only.specs.ReadOnly.{readOnly, keeping, written}
 use Rattle.memory.specs.Edac.{bodySize, fileShown}
 use Rattle.read_only.specs.Files.{fileStored}
 use Rattle.memory.specs.Status.{statusWritten}
-use Rattle.blocks.specs.Fram.{freshSums, freshFrom, refreshed, storeOf, placeOf}
+use Rattle.blocks.specs.Fram.{freshSums, freshFrom, refreshed, storeOf, partsFrom, rangeSum, placeOf}
+use Rattle.blocks.specs.Cost.{howMany, costOf}
 use Rattle.fram_commands.specs.Peek.{peekOf, peekRangeOf}
 use Rattle.fram_commands.specs.Poke.{pokeOf}
-use Rattle.fram_commands.specs.ByAddress.{peekByAddress, pokeByAddress}
+use Rattle.fram_commands.specs.Crc.{crcOf}
+use Rattle.fram_commands.specs.Cost.{rangeCost}
+use Rattle.fram_commands.specs.ByAddress.{peekByAddress, pokeByAddress, crcByAddress}
 use Rattle.file_commands.specs.ReadFile.{filesShown, filesWidth, readFileOf}
 use Rattle.file_commands.specs.WriteFile.{judgeListOf, writeFileOf}
 use Rattle.edac_commands.specs.WriteEdac.{writeEdacOf}
@@ -29,7 +33,7 @@ use Rattle.unit.specs.Steps.{setUpOf, answered, commandedOf, servedOf, stepOf}
 use Rattle.demands.specs.Worked.{WorkedExamples}
 
 pub the-worked-examples-hold : WorkedExamples
-unfolding stepOf setUpOf setUpFit stepFit lengthsFit freshSums freshFrom judgeOf receivedOf receiveOf insideOf afterEscapeOf closedOf storedOf countedOf verdictOf runOf servedOf countedUp commandedOf answered saidOf saying sealed replyMessage commandOf initOf statusWritten peekByAddress peekOf peekRangeOf pokeByAddress pokeOf storeOf refreshed placeOf escapedOf begun sumOf sumFrom byteStep bitSteps bitStep readFileOf filesShown filesWidth fileShown bodySize judgeListOf writeFileOf writeEdacOf listedFrom fileStored written keeping readOnly stored diagnosticOf allChannels channelsShown
+unfolding stepOf setUpOf setUpFit stepFit lengthsFit freshSums freshFrom judgeOf receivedOf receiveOf insideOf afterEscapeOf closedOf storedOf countedOf verdictOf runOf servedOf countedUp commandedOf answered saidOf saying sealed replyMessage commandOf initOf statusWritten peekByAddress peekOf peekRangeOf pokeByAddress pokeOf storeOf refreshed crcByAddress crcOf rangeSum partsFrom joinAll joinedOf carried rangeCost costOf howMany placeOf escapedOf begun sumOf sumFrom byteStep bitSteps bitStep readFileOf filesShown filesWidth fileShown bodySize judgeListOf writeFileOf writeEdacOf listedFrom fileStored written keeping readOnly stored diagnosticOf allChannels channelsShown
 the-worked-examples-hold = record {
   P1 = sum.P1;
   P2 = sum.P2;
@@ -46,4 +50,5 @@ the-worked-examples-hold = record {
   T02 = ((refl, refl, refl, refl, refl, refl), (refl, refl, refl, refl, refl, refl));
   T06 = (refl, (refl, refl, refl, refl, refl, refl), (refl, refl, refl, refl, refl, refl), (refl, refl, refl, refl, refl, refl));
   T07 = (refl, refl, refl, refl, refl);
+  T13 = (refl, refl, refl);
 }

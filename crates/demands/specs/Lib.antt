@@ -5,3 +5,4 @@ pub mod Orders
 pub mod Keeping
 pub mod Asking
 pub mod Worked
+pub mod Costing

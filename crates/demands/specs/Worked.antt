@@ -1,4 +1,4 @@
--- 01, "Small examples": P1 to P12, and one each for 02, T-02, T-06 and T-07, under one statement. Those that a unit can show are run on one, byte by
+-- 01, "Small examples": P1 to P12, and one each for 02, T-02, T-06, T-07 and T-13, under one statement. Those that a unit can show are run on one, byte by
 -- byte.
 -- Assumes nothing.
 use mathlib.Core.Path.{_≡_}
@@ -19,20 +19,22 @@ use Rattle.line.specs.declared.receiver.Place.the-variants.{Fresh}
 use Rattle.unit.specs.World.{World, world, outcome}
 use Rattle.unit.specs.Steps.{setUpOf, stepOf}
 
--- What is seen of bytes on the line of a unit whose memory and buffers nobody else touches: the number of each answer, all that is
+-- What is seen of bytes on the line of a unit whose memory and buffers nobody else touches: the number of each answer, what each cost, all that is
 -- sent, and what was lent as the last byte leaves it.
 pub record Seen : Type 0 where
   pub answers : List ℕ
+  pub costs : List ℕ
   pub sent : List ℕ
   pub left : World
 
 abbrev pub seenOf : Unit → World → List ℕ → Seen
-seenOf u w [] = record { answers = []; sent = []; left = w }
+seenOf u w [] = record { answers = []; costs = []; sent = []; left = w }
 seenOf u w (byte ∷ bytes) =
     let o = stepOf u byte w in
     let rest = seenOf (o .unit) (o .world) bytes in
     record {
       answers = numberOf (o .answer) ∷ rest .answers;
+      costs = o .cost ∷ rest .costs;
       sent = take (sentOf (o .answer)) (o .world .buffers .reply) ++ rest .sent;
       left = rest .left;
     }
@@ -168,3 +170,14 @@ pub record WorkedExamples : Type 0 where
       ++ (0xC0 ∷ 0x11 ∷ 0x41 ∷ 0xA3 ∷ 0x00 ∷ 0x00 ∷ 0x00 ∷ 0x20 ∷ 0xBB ∷ 0x4C ∷ 0x5A ∷ 0xC0 ∷ [])
       ++ (0xC0 ∷ 0x11 ∷ 0x41 ∷ 0x82 ∷ 0xFF ∷ 0xFF ∷ 0x03 ∷ 0x20 ∷ 0x02 ∷ 0xA1 ∷ 0x2C ∷ 0xC0 ∷ []))
       × (s .left .diagnostics ≡ set noCounts 0x06 0xCC) × (s .left .frams .bootloader .fram ≡ 0xAA ∷ replicate 255 0) × (s .left .frams .user .fram ≡ replicate 256 0)
+  -- 02, T-13: the CRC of a block of user FRAM costs 1. The same less its last byte costs 255, though poll is clear and nothing is sent. With the last
+  -- address before the first it is refused and costs nothing.
+  pub T13 : let s = shownBy zeros
+      ((0xC0 ∷ 0x41 ∷ 0x11 ∷ 0x86 ∷ 0x00 ∷ 0x00 ∷ 0x04 ∷ 0x20 ∷ 0xFF ∷ 0x00 ∷ 0x04 ∷ 0x20 ∷ 0x8F ∷ 0x05 ∷ 0xC0 ∷ [])
+      ++ (0xC0 ∷ 0x41 ∷ 0x11 ∷ 0x06 ∷ 0x00 ∷ 0x00 ∷ 0x04 ∷ 0x20 ∷ 0xFE ∷ 0x00 ∷ 0x04 ∷ 0x20 ∷ 0xE3 ∷ 0xDD ∷ 0xC0 ∷ [])
+      ++ (0xC0 ∷ 0x41 ∷ 0x11 ∷ 0x86 ∷ 0x01 ∷ 0x00 ∷ 0x04 ∷ 0x20 ∷ 0x00 ∷ 0x00 ∷ 0x04 ∷ 0x20 ∷ 0xE2 ∷ 0x41 ∷ 0xC0 ∷ [])) in
+      (s .answers ≡ replicate 14 0 ++ (1 ∷ replicate 14 0) ++ (2 ∷ replicate 14 0) ++ (3 ∷ []))
+      × (s .costs ≡ replicate 14 0 ++ (1 ∷ replicate 14 0) ++ (255 ∷ replicate 15 0))
+      × (s .sent
+      ≡ (0xC0 ∷ 0x11 ∷ 0x41 ∷ 0xA6 ∷ 0x00 ∷ 0x00 ∷ 0x04 ∷ 0x20 ∷ 0xFF ∷ 0x00 ∷ 0x04 ∷ 0x20 ∷ 0x82 ∷ 0x17 ∷ 0x58 ∷ 0x1A ∷ 0xC0 ∷ [])
+      ++ (0xC0 ∷ 0x11 ∷ 0x41 ∷ 0x86 ∷ 0x01 ∷ 0x00 ∷ 0x04 ∷ 0x20 ∷ 0x00 ∷ 0x00 ∷ 0x04 ∷ 0x20 ∷ 0x8B ∷ 0x7E ∷ 0xC0 ∷ []))

@@ -15,14 +15,14 @@ use Rattle.face.specs.Records.{steppedOut, returned, returnedBy}
 
 passed-on
     : (r : WheelStepped) (stepped : Stepped) (after : World) (o : Outcome)
-    → r ≡ steppedOut (stepped .unit) (stepped .answer)
+    → r ≡ steppedOut (stepped .unit) (stepped .answer) (stepped .cost)
     → outcomeOf stepped after ≡ o
     → returned r after ≡ returnedBy o
 passed-on r stepped after o e due = ap (λ s. returned s after) e ∙ ap returnedBy due
 
 pub a-set-up-passed-on
     : (r : WheelStepped) (stepped : Stepped) (after : World) (address limit : ℕ) (locked meant : Bool) (before : World)
-    → r ≡ steppedOut (stepped .unit) (stepped .answer)
+    → r ≡ steppedOut (stepped .unit) (stepped .answer) (stepped .cost)
     → outcomeOf stepped after ≡ setUpOf address limit locked before
     → locked ≡ meant
     → returned r after ≡ returnedBy (setUpOf address limit meant before)
@@ -31,7 +31,7 @@ a-set-up-passed-on r stepped after address limit locked meant before e due same 
 
 pub a-step-passed-on
     : (r : WheelStepped) (stepped : Stepped) (after : World) (u meant : Unit) (byte : ℕ) (before : World)
-    → r ≡ steppedOut (stepped .unit) (stepped .answer)
+    → r ≡ steppedOut (stepped .unit) (stepped .answer) (stepped .cost)
     → outcomeOf stepped after ≡ stepOf u byte before
     → u ≡ meant
     → returned r after ≡ returnedBy (stepOf meant byte before)

@@ -67,9 +67,9 @@ unitOut u = record {
   locked = lockOut (u .locked);
 }
 
--- An answer with the unit's record as they go to C: 01's number, and the bytes sent.
-abbrev pub steppedOut : Unit → Answer → WheelStepped
-steppedOut u answer = record { unit = unitOut u; sent = sentOf answer; answer = numberOf answer }
+-- An answer with the unit's record as they go to C: 01's number, and the bytes sent; and beside it what a command cost.
+abbrev pub steppedOut : Unit → Answer → ℕ → WheelStepped
+steppedOut u answer cost = record { unit = unitOut u; sent = sentOf answer; cost = cost; answer = numberOf answer }
 
 -- What a call leaves, as C has it: what it gives back, and all that was lent.
 pub record Returned : Type 0 where
@@ -80,7 +80,7 @@ abbrev pub returned : WheelStepped → World → Returned
 returned r w = record { stepped = r; world = w }
 
 abbrev pub returnedBy : Outcome → Returned
-returnedBy o = returned (steppedOut (o .unit) (o .answer)) (o .world)
+returnedBy o = returned (steppedOut (o .unit) (o .answer) (o .cost)) (o .world)
 
 -- What packing gives back, with the reply buffer as it leaves it.
 abbrev pub packingBy : WheelPacked → List ℕ → Packing

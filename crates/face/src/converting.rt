@@ -106,7 +106,7 @@ fn unit_out(held: Unit) -> WheelUnit
 }
 
 pub fn stepped_out(stepped: Stepped) -> WheelStepped
-    ensures { λ r. ⌜ r ≡ steppedOut (stepped .unit) (stepped .answer) ⌝ }
+    ensures { λ r. ⌜ r ≡ steppedOut (stepped .unit) (stepped .answer) (stepped .cost) ⌝ }
 {
     let held = stepped.unit;
     let answer = stepped.answer;
@@ -114,6 +114,7 @@ pub fn stepped_out(stepped: Stepped) -> WheelStepped
     WheelStepped {
         unit: record,
         sent: sent_of(answer) as u64,
+        cost: stepped.cost,
         answer: number_of(answer),
     }
 }

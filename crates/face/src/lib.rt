@@ -41,11 +41,12 @@ pub struct WheelUnit {
     pub locked: u8,
 }
 
-// The unit's record afterwards, how many bytes of the reply buffer are to be sent, and 01's number of the answer.
+// The unit's record afterwards, how many bytes of the reply buffer are to be sent, what a command cost, and 01's number of the answer.
 #[repr(C)]
 pub struct WheelStepped {
     pub unit: WheelUnit,
     pub sent: u64,
+    pub cost: u32,
     pub answer: u8,
 }
 

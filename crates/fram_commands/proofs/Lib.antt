@@ -4,3 +4,4 @@ pub mod Room
 pub mod Ways
 pub mod Choosing
 pub mod Storing
+pub mod Costs

@@ -3,3 +3,4 @@ pub mod Peek
 pub mod Poke
 pub mod Crc
 pub mod ByAddress
+pub mod Cost

@@ -1,5 +1,5 @@
 -- From what a handler leaves to the answer. Assumes nothing.
-use mathlib.Core.Path.{_≡_, refl, ap, _∙_}
+use mathlib.Core.Path.{_≡_, refl, ap, ap₂, _∙_}
 use mathlib.Core.List.{List, _++_, append-assoc}
 use Prim.Native.Nat.{ℕ, _+_, _-_, _≤_}
 use native.Mathlib.Omega.{arith}
@@ -11,8 +11,9 @@ use Rattle.carrying.specs.declared.Ended.the-variants as ended′
 use Rattle.carrying.specs.Ending.{longestData, Ending, done, refused, unfitted, Left, left, leaves}
 use Rattle.carrying.specs.Held.{Held}
 use Rattle.judging.specs.declared.Unit.{Unit}
-use Rattle.replying.specs.Replies.{Said, saidOf, endingOf}
-use Rattle.unit.specs.World.{World, Outcome, outcome, withStanding, withReply, heldOf, withHeld}
+use Rattle.command.specs.Cost.{commandCost}
+use Rattle.replying.specs.Replies.{codeOf, Said, saidOf, endingOf}
+use Rattle.unit.specs.World.{World, Outcome, outcome, costing, withStanding, withReply, heldOf, withHeld}
 use Rattle.unit.specs.Steps.{answered}
 
 -- the scratch with the handler's part of it back in its place
@@ -31,23 +32,25 @@ module _ (u : Unit) (w : World) (destination source control : ℕ) (field made p
   answering : Left Held → Outcome
   answering l =
       let s = saidOf destination source control field (endingOf (l .ended) (refilled made (l .reply))) (w .buffers .reply) in
-      outcome (withStanding u (l .memory .standing)) (s .answer) (withReply (withHeld w (l .memory)) (s .reply))
+      costing (commandCost (codeOf control) (l .ended) field) (outcome (withStanding u (l .memory .standing)) (s .answer) (withReply (withHeld w (l .memory)) (s .reply)))
 
   leaves-the-answer : (o : Ending Held) → answering (leaves o part (heldOf u w)) ≡ answered u destination source control field o w
   unfolding answering saidOf answered
   leaves-the-answer (done bytes changed) =
-      ap (λ d. let s = saidOf destination source control field (done d (tt {0})) (w .buffers .reply) in outcome (withStanding u (changed .standing)) (s .answer) (withReply (withHeld w changed) (s .reply)))
+      ap (λ d. let s = saidOf destination source control field (done d (tt {0})) (w .buffers .reply) in costing (commandCost (codeOf control) (ended′.Done (length bytes)) field) (outcome (withStanding u (changed .standing)) (s .answer) (withReply (withHeld w changed) (s .reply))))
       (the-data-stands made part bytes h)
   leaves-the-answer refused = refl
   leaves-the-answer unfitted = refl
 
-  pub the-command-is-answered : (o : Ending Held) (s : Said) (ended : Ended) (back : List ℕ) (changed : Held)
+  pub the-command-is-answered : (o : Ending Held) (s : Said) (cost : ℕ) (ended : Ended) (back : List ℕ) (changed : Held)
       → left ended back changed ≡ leaves o part (heldOf u w)
       → s ≡ saidOf destination source control field (endingOf ended (refilled made back)) (w .buffers .reply)
-      → outcome (withStanding u (changed .standing)) (s .answer) (withReply (withHeld w changed) (s .reply)) ≡ answered u destination source control field o w
+      → cost ≡ commandCost (codeOf control) ended field
+      → costing cost (outcome (withStanding u (changed .standing)) (s .answer) (withReply (withHeld w changed) (s .reply))) ≡ answered u destination source control field o w
   unfolding answering
-  the-command-is-answered o s ended back changed e k =
-      ap (λ (x : Said). outcome (withStanding u (changed .standing)) (x .answer) (withReply (withHeld w changed) (x .reply))) k ∙ ap answering e ∙ leaves-the-answer o
+  the-command-is-answered o s cost ended back changed e k h =
+      ap₂ (λ (n : ℕ) (x : Said). costing n (outcome (withStanding u (changed .standing)) (x .answer) (withReply (withHeld w changed) (x .reply)))) h k ∙ ap answering e
+      ∙ leaves-the-answer o
 
 length-of-begun : (part bytes : List ℕ) → length (begun part bytes) ≡ length bytes + (length part - length bytes)
 unfolding begun

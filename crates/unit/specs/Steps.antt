@@ -1,4 +1,4 @@
--- Set-up, and one byte in and one answer out: 01, "The unit and its neighbours" and "One byte in, one answer out"; 02, T-06 and T-07.
+-- Set-up, and one byte in and one answer out: 01, "The unit and its neighbours" and "One byte in, one answer out"; 02, T-06, T-07 and T-13.
 -- Assumes nothing.
 use Prim.Native.Nat.{ℕ, _-_}
 use mathlib.Core.Bool.{Bool, false}
@@ -10,9 +10,10 @@ use Rattle.memory.specs.Counts.{countedUp}
 use Rattle.memory.specs.Status.{statusWritten}
 use Rattle.blocks.specs.Fram.{Kept, kept, freshSums}
 use Rattle.carrying.specs.declared.Mode.the-variants.{Bootloader}
-use Rattle.carrying.specs.Ending.{Ending}
+use Rattle.carrying.specs.Ending.{Ending, endedOf}
 use Rattle.carrying.specs.Held.{Frams, frams, Held, after}
 use Rattle.command.specs.Command.{commandOf}
+use Rattle.command.specs.Cost.{commandCost}
 use Rattle.answer.specs.declared.Answer.the-variants.{Taken}
 use Rattle.judging.specs.declared.Unit.{Unit}
 use Rattle.judging.specs.declared.Verdict.{Verdict}
@@ -22,7 +23,7 @@ use Rattle.judging.specs.declared.fitting.Fit.the-variants.{Fits, Unfit}
 use Rattle.judging.specs.Fitting.{setUpFit}
 use Rattle.judging.specs.Judging.{judgeOf}
 use Rattle.replying.specs.Replies.{codeOf, saidOf}
-use Rattle.unit.specs.World.{World, lengthsOf, Outcome, outcome, withFrams, withStanding, withMessage, withDiagnostics, withReply, heldOf, withHeld}
+use Rattle.unit.specs.World.{World, lengthsOf, Outcome, outcome, costing, withFrams, withStanding, withMessage, withDiagnostics, withReply, heldOf, withHeld}
 
 -- ---- set-up
 
@@ -65,13 +66,13 @@ setUpOf address limit locked w = setUpAs (setUpFit address limit (lengthsOf w)) 
 
 -- ---- one byte in, one answer out
 
--- A command that came to an ending, answered: what it changed, and what is said. `destination`, `source`, `control` and `field` are
+-- A command that came to an ending, answered: what it changed, what is said, and what it cost. `destination`, `source`, `control` and `field` are
 -- the command's.
 unfoldable pub answered : Unit → ℕ → ℕ → ℕ → List ℕ → Ending Held → World → Outcome
 answered u destination source control field ending w =
     let held = after (heldOf u w) ending in
     let s = saidOf destination source control field ending (w .buffers .reply) in
-    outcome (withStanding u (held .standing)) (s .answer) (withReply (withHeld w held) (s .reply))
+    costing (commandCost (codeOf control) (endedOf ending) field) (outcome (withStanding u (held .standing)) (s .answer) (withReply (withHeld w held) (s .reply)))
 
 -- A command for this unit, carried out and answered. Its reply has no more data than the unit's limit allows.
 abbrev pub orderedOf : Unit → ℕ → ℕ → ℕ → List ℕ → World → Outcome

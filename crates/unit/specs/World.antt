@@ -1,4 +1,4 @@
--- What is lent to a call, and what a call leaves. 01, "The unit and its neighbours"; 02, T-07. Assumes nothing.
+-- What is lent to a call, and what a call leaves. 01, "The unit and its neighbours"; 02, T-07 and T-13. Assumes nothing.
 use Prim.Native.Nat.{ℕ}
 use mathlib.Core.List.{List}
 use lib.ListN.{length}
@@ -41,18 +41,23 @@ lengthsOf w = record {
   reply = length (w .buffers .reply);
 }
 
--- What a call leaves: the unit, its answer, and all that was lent.
+-- What a call leaves: the unit, its answer, beside it what a command cost, and all that was lent.
 pub record Outcome : Type 0 where
   pub unit : Unit
   pub answer : Answer
+  pub cost : ℕ
   pub world : World
 
+-- One that cost nothing, and the same at a cost.
 abbrev pub outcome : Unit → Answer → World → Outcome
-outcome u answer w = record { unit = u; answer = answer; world = w }
+outcome u answer w = record { unit = u; answer = answer; cost = 0; world = w }
+
+abbrev pub costing : ℕ → Outcome → Outcome
+costing cost o = record { unit = o .unit; answer = o .answer; cost = cost; world = o .world }
 
 -- What a call gives back, with all that was lent as it leaves it.
 abbrev pub outcomeOf : Stepped → World → Outcome
-outcomeOf r w = outcome (r .unit) (r .answer) w
+outcomeOf r w = costing (r .cost) (outcome (r .unit) (r .answer) w)
 
 -- ---- one thing changed, and nothing else
 

@@ -1,6 +1,7 @@
 // The unit: a record by value, set-up, and one byte in and one answer out.
 pub use answer::Answer;
 use carrying::Mode;
+use command::cost::cost_of;
 use judging::Lengths;
 pub use judging::Unit;
 use judging::Verdict;
@@ -26,10 +27,11 @@ ghost use Rattle.carrying.specs.Ending.{isLimit};
 ghost use Rattle.unit.specs.World.{world, outcomeOf};
 ghost use Rattle.unit.specs.Steps.{setUpOf, commandedOf, stepOf};
 
-// An answer with the unit afterwards.
+// An answer with the unit afterwards, and what a command cost, as a count.
 pub struct Stepped {
     pub unit: Unit,
     pub answer: Answer,
+    pub cost: u32,
 }
 
 // Where the longest data field ends in a buffer for a message.
@@ -81,6 +83,7 @@ pub fn set_up(
                 receiver: fresh,
             },
             answer,
+            cost: 0,
         },
         Fit::Fits => {
             blocks::compute_sums(bootloader, bootloader_sums);
@@ -98,6 +101,7 @@ pub fn set_up(
                     receiver: fresh,
                 },
                 answer: Answer::Taken,
+                cost: 0,
             }
         }
     }
@@ -129,13 +133,14 @@ fn commanded(
     let mode = unit.mode;
     let receiver = unit.receiver;
     let room = unit.limit as usize;
+    let field = &message[HEAD..end];
     let mut made = [0u8; MESSAGE_SIZE];
     let carried = command::carry_out(
         room,
         code,
         mode,
         unit.locked,
-        &message[HEAD..end],
+        field,
         edac,
         bootloader,
         bootloader_sums,
@@ -146,6 +151,7 @@ fn commanded(
     );
     let ended = carried.ended;
     let after = carried.mode;
+    let cost = cost_of(code, ended, field);
     let answer = replying::say(ended, count, message, &mut made, reply);
     Stepped {
         unit: Unit {
@@ -158,6 +164,7 @@ fn commanded(
             receiver,
         },
         answer,
+        cost,
     }
 }
 
@@ -191,10 +198,18 @@ pub fn step(
     let next = judged.unit;
     let verdict = judged.verdict;
     match verdict {
-        Verdict::Quiet(answer) => Stepped { unit: next, answer },
+        Verdict::Quiet(answer) => Stepped {
+            unit: next,
+            answer,
+            cost: 0,
+        },
         Verdict::Dropped(answer, channel) => {
             memory::counts::count_up(diagnostics, channel);
-            Stepped { unit: next, answer }
+            Stepped {
+                unit: next,
+                answer,
+                cost: 0,
+            }
         }
         Verdict::Command(count) => commanded(
             next,

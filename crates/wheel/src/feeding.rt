@@ -4,10 +4,11 @@ use answer::sent_of;
 use unit::Stepped;
 use unit::Unit;
 
-// The unit after a call, the number of the answer, and how many bytes of a reply are to be sent.
+// The unit after a call, the number of the answer, what a command cost, and how many bytes of a reply are to be sent.
 pub struct Fed {
     pub unit: Unit,
     pub number: u8,
+    pub cost: u32,
     pub sent: usize,
 }
 
@@ -17,6 +18,7 @@ fn fed_by(stepped: Stepped) -> Fed {
     Fed {
         unit,
         number: number_of(answer),
+        cost: stepped.cost,
         sent: sent_of(answer),
     }
 }

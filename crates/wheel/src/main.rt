@@ -1,6 +1,7 @@
 // A wheel on standard input and output: `wheel [ADDRESS [FRAM [LIMIT [BOOTLOADER [LOCK]]]]]`. It sets a unit up, feeds it every byte
 // that it reads and writes every reply; where the input ends it says on standard error how often each answer came, by its number,
-// which diagnostics moved, whether bootloader FRAM is locked, and how many replies and bytes were written.
+// which diagnostics moved, whether bootloader FRAM is locked, the largest cost of a CRC command, and how many replies and bytes were
+// written.
 mod feeding;
 
 use answer::number_of;
@@ -31,7 +32,7 @@ fn run(
 ) {
     let mut reply = [0u8; 2068];
     let mut buffer = [0u8; 131072];
-    let mut tally = [0u64; 30];
+    let mut tally = [0u64; 31];
     let mut fed = begun(
         address,
         limit,
@@ -66,7 +67,7 @@ fn run(
             message,
             &mut reply,
         );
-        count(&mut tally, fed.number);
+        count(&mut tally, fed.number, fed.cost);
     }
     let unit = fed.unit;
     report::ended(&tally, diagnostics, unit.locked, flow.bytes, flow.fends);

@@ -5,6 +5,9 @@ use libc::STDOUT_FILENO;
 // The diagnostic that set-up writes: it shows whether bootloader FRAM is locked.
 const FRAM_STATUS: usize = 0x06;
 
+// The place of the largest cost in a tally, behind those of the answers.
+const LARGEST_COST: usize = 30;
+
 fn said(words: &[u8]) {
     io::write_all(STDERR_FILENO, words);
 }
@@ -21,8 +24,8 @@ pub fn help() {
     io::write_all(
         STDOUT_FILENO,
         b"A reaction wheel's command unit: the line's bytes on standard input, its replies on standard output, and at the end on\n\
-        standard error how often each answer came, which diagnostics moved, whether bootloader FRAM is locked, and what was\n\
-        written.\n\
+        standard error how often each answer came, which diagnostics moved, whether bootloader FRAM is locked, the largest\n\
+        cost of a CRC command, as a count of bytes and blocks, and what was written.\n\
         \x20 ADDRESS     1 to 255, but not 0xC0 or 0xDB; 0x41 if there is none\n\
         \x20 FRAM        bytes of user FRAM, a multiple of 256 from 256 to 262144; 65536 if there is none\n\
         \x20 LIMIT       the most data bytes of a message, 260 to 1028; 1028 if there is none\n\
@@ -99,7 +102,7 @@ fn numbered(name: &[u8], i: usize, value: u64) {
 }
 
 // How often each answer came, by its number.
-fn answers(tally: &[u64; 30]) {
+fn answers(tally: &[u64; 31]) {
     let mut i = 0;
     while i < 30 {
         numbered(b"answer ", i, tally[i]);
@@ -134,18 +137,23 @@ fn lock(locked: bool) {
 }
 
 // What is said at the end. A reply has two FENDs, its first byte and its last.
-pub fn ended(tally: &[u64; 30], values: &[u32; 31], locked: bool, bytes: u64, fends: u64) {
+pub fn ended(tally: &[u64; 31], values: &[u32; 31], locked: bool, bytes: u64, fends: u64) {
     answers(tally);
     diagnostics(values);
     lock(locked);
+    line(b"largest cost of a CRC: ", tally[LARGEST_COST]);
     line(b"replies written: ", fends / 2);
     line(b"bytes written: ", bytes);
 }
 
-// One more answer of its number.
-pub fn count(tally: &mut [u64; 30], number: u8) {
+// One more answer of its number, and what it cost, if that is the largest yet.
+pub fn count(tally: &mut [u64; 31], number: u8, cost: u32) {
     let i = number as usize;
     if i < 30 {
         tally[i] = std::num::wrapping_add_u64(tally[i], 1);
+    }
+    let spent = cost as u64;
+    if tally[LARGEST_COST] < spent {
+        tally[LARGEST_COST] = spent;
     }
 }

@@ -1,0 +1,16 @@
+-- What a call with a byte says that it cost: 02, T-13. Assumes nothing.
+use mathlib.Core.Path.{_≡_}
+use Prim.Native.Nat.{_+_, _≤_, max}
+use lib.ListN.{length, getD}
+use Rattle.answer.specs.Answers.{numberOf}
+use Rattle.replying.specs.Replies.{codeOf}
+use Rattle.unit.specs.World.{World, Outcome}
+
+-- By its answer, by the message that the buffer then holds, and by the number of blocks of what was lent, one sum for each.
+pub record Costs (w : World) (o : Outcome) : Type 0 where
+  -- 0 for every answer but a CRC command that is done: for all but 1 and 2, and for every other code than 0x06.
+  pub nothing-unless-a-command-is-done : (numberOf (o .answer) ≡ 1 → ⊥) → (numberOf (o .answer) ≡ 2 → ⊥) → o .cost ≡ 0
+  pub nothing-unless-it-is-CRC : (codeOf (getD (o .world .buffers .message) 2 0) ≡ 0x06 → ⊥) → o .cost ≡ 0
+  -- For one memory at most 1,532, that is 508 above its blocks where it has as many as it can, and else so much less.
+  pub at-most : o .cost ≤ max (length (w .frams .bootloader .sums)) (length (w .frams .user .sums)) + 508
+  pub for-one-memory-at-most : o .cost ≤ 1532
