@@ -1,5 +1,6 @@
 /* The C face's records across the boundary: every field of a record goes in and comes out as it was, with every other field
- * at odds with it; numbers out of range mean what the header says; every refusal has its number and changes nothing. */
+ * at odds with it; numbers out of range mean what the header says; every refusal has its number, costs nothing and changes nothing;
+ * what a CRC command costs comes out beside the record and the number. */
 #include "wheel.h"
 
 #include <stdio.h>
@@ -60,11 +61,17 @@ static void same_unit(const char *name, struct wheel_unit came, struct wheel_uni
     same(name, came.locked, due.locked);
 }
 
-static void refused(const char *name, struct wheel_stepped came, unsigned answer, struct wheel_unit due) {
+/* A call that sends nothing and changes nothing, but for what stands in `before`. */
+static void silent(const char *name, struct wheel_stepped came, unsigned answer, unsigned cost, struct wheel_unit due) {
     same(name, came.answer, answer);
     same(name, came.sent, 0);
+    same(name, came.cost, cost);
     same_unit(name, came.unit, due);
     same(name, (unsigned long long)memcmp(&lent, &before, sizeof lent), 0);
+}
+
+static void refused(const char *name, struct wheel_stepped came, unsigned answer, struct wheel_unit due) {
+    silent(name, came, answer, 0, due);
 }
 
 /* The record of a refused set-up. */
@@ -180,6 +187,53 @@ static void frams(struct wheel_unit fits) {
     refused("a wide length of user FRAM", step(unit, 0xC0, right), WHEEL_BAD_FRAM, unit);
 }
 
+/* What a CRC command costs by its first and last byte of an FRAM: byte by byte. A block is covered where its ends are. */
+static unsigned cost_of(unsigned first, unsigned last) {
+    unsigned cost = 0;
+    for (unsigned at = first; at <= last; at++) {
+        const unsigned start = at - at % WHEEL_FRAM_BLOCK, end = start + WHEEL_FRAM_BLOCK - 1;
+        const int covered = first <= start && end <= last;
+        cost += !covered || at == start;
+    }
+    return cost;
+}
+
+/* CRC commands that stand in the message buffer as if they had been received, with poll clear: one for each pair of some bytes
+ * about the edges of blocks in either FRAM, and a byte after each. `fits` is a unit that takes a byte. */
+static void costs(struct wheel_unit fits) {
+    static const unsigned ends[] = {0, 1, 100, 254, 255, 256, 257, 400, 511, 512, 513, 766, 767};
+    static const uint32_t firsts[] = {WHEEL_BOOTLOADER_FRAM_FIRST, WHEEL_USER_FRAM_FIRST};
+    const unsigned sizes[] = {BOOT, FRAM};
+    enum { LENGTH = 13, ENDS = sizeof ends / sizeof ends[0] };
+    struct wheel_unit unit = fits, after = fits;
+    unit.count = LENGTH;
+    after.count = 0;
+    for (unsigned n = 0; n < 2 * ENDS * ENDS; n++) {
+        const unsigned fram = n % 2, first = ends[n / 2 % ENDS], last = ends[n / 2 / ENDS];
+        const uint32_t addresses[2] = {firsts[fram] + first, firsts[fram] + last};
+        uint8_t *const message = lent.message;
+        message[0] = fits.address;
+        message[1] = 0x11;
+        message[2] = 0x06;
+        for (size_t i = 0; i < 8; i++) {
+            message[3 + i] = (uint8_t)(addresses[i / 4] >> 8 * (i % 4));
+        }
+        const uint16_t sum = wheel_crc(message, LENGTH - 2);
+        message[LENGTH - 2] = (uint8_t)sum;
+        message[LENGTH - 1] = (uint8_t)(sum >> 8);
+        memcpy(before.message, message, LENGTH);
+        const struct wheel_stepped came = step(unit, 0xC0, right);
+        if (last < first) {
+            silent("a CRC command that is refused", came, WHEEL_REFUSED_SILENT, 0, after);
+        } else if (last >= sizes[fram]) {
+            silent("a CRC command of memory not fitted", came, WHEEL_UNFITTED, 0, after);
+        } else {
+            silent("a CRC command", came, WHEEL_DONE_SILENT, cost_of(first, last), after);
+        }
+        silent("a FEND after it", step(came.unit, 0xC0, right), WHEEL_TAKEN, 0, after);
+    }
+}
+
 /* A list of files: a limit with all its bits, each refusal, and what is stored. */
 static void lists(void) {
     static const uint8_t list[5] = {0x28, 0x11, 0x22, 0x33, 0x44};
@@ -208,6 +262,8 @@ int main(void) {
     before = lent;
     same("size of a record", sizeof(struct wheel_unit), 32);
     same("size of what a call gives back", sizeof(struct wheel_stepped), 48);
+    same("place of the cost", offsetof(struct wheel_stepped, cost), 40);
+    same("place of the number", offsetof(struct wheel_stepped, answer), 44);
 
     /* A refused call hands the record back: every field, with all bits of the wide ones. */
     const uint64_t wide[] = {0, 1, 0x0123456789ABCDEFu, 0xFEDCBA9876543210u, 0xFFFFFFFFFFFFFFFFu};
@@ -314,6 +370,7 @@ int main(void) {
     same("packed", (unsigned long long)memcmp(&lent, &before, sizeof lent), 0);
 
     limits(fresh);
+    costs(fits);
     lists();
 
     /* Joining: with no bytes on either side a part comes back as it was, with all bits of its fields; and its refusal. */

@@ -1,6 +1,6 @@
 /* The C face, linked and called as firmware does it: some vectors of 01, the joining of every cut of a text, a unit on which the
-   line writes SPEED in vain, a unit of the least limit, bootloader FRAM written, read and locked, and lists of files judged and
-   stored with no unit at hand. */
+   line writes SPEED in vain, a unit of the least limit, bootloader FRAM written, read and locked, CRC commands with what they cost,
+   and lists of files judged and stored with no unit at hand. */
 #include "wheel.h"
 
 #include <stdio.h>
@@ -136,6 +136,52 @@ static void bootloader_fram(void) {
     same("stored", bootloader[0xFF], 0x03);
 }
 
+static uint8_t large[WHEEL_FRAM_MOST];
+static uint16_t large_sums[WHEEL_FRAM_MOST / WHEEL_FRAM_BLOCK];
+
+/* A CRC command over user FRAM from one byte to another must have this answer and this cost, and show the CRC if it is done. */
+static void summed(const char *name, uint32_t first, uint32_t last, unsigned answer, unsigned long cost) {
+    const uint32_t ends[2] = {WHEEL_USER_FRAM_FIRST + first, WHEEL_USER_FRAM_FIRST + last};
+    uint8_t data[10];
+    for (size_t i = 0; i < 8; i++) {
+        data[i] = (uint8_t)(ends[i / 4] >> 8 * (i % 4));
+    }
+    same(name, asked(0x06, data, 8), answer);
+    same(name, wheel.now.cost, cost);
+    if (answer == WHEEL_ACKED) {
+        const uint16_t sum = wheel_crc(large + first, last - first + 1);
+        data[8] = (uint8_t)sum;
+        data[9] = (uint8_t)(sum >> 8);
+        shown(name, data, sizeof data);
+    }
+}
+
+/* 02, T-13: what CRC commands cost in an FRAM of the largest length. */
+static void costs(void) {
+    static const uint8_t peek[] = {0x00, 0x00, 0x04, 0x20, 0x02};
+    const uint32_t end = WHEEL_FRAM_MOST - 1;
+    for (size_t i = 0; i < sizeof large; i++) {
+        large[i] = (uint8_t)(i * 7 + i / 251);
+    }
+    wheel.user.bytes = large;
+    wheel.user.length = sizeof large;
+    wheel.user.sums = large_sums;
+    same("set up", set_up(WHEEL_LIMIT_MOST), WHEEL_TAKEN);
+    same("set-up's cost", wheel.now.cost, 0);
+    summed("CRC of a block", 256, 511, WHEEL_ACKED, 1);
+    same("a byte after a CRC command", wheel_byte(&wheel, 0xC0), WHEEL_TAKEN);
+    same("its cost", wheel.now.cost, 0);
+    summed("CRC of a byte less", 256, 510, WHEEL_ACKED, 255);
+    summed("CRC of one byte", 255, 255, WHEEL_ACKED, 1);
+    summed("CRC over an edge", 255, 256, WHEEL_ACKED, 2);
+    summed("CRC of all", 0, end, WHEEL_ACKED, 1024);
+    summed("CRC that costs most", 1, end - 1, WHEEL_ACKED, WHEEL_COST_MOST);
+    summed("CRC with the last before the first", 1, 0, WHEEL_NACKED, 0);
+    summed("CRC of a byte not fitted", 0, end + 1, WHEEL_UNFITTED, 0);
+    same("PEEK", asked(0x02, peek, sizeof peek), WHEEL_ACKED);
+    same("PEEK's cost", wheel.now.cost, 0);
+}
+
 /* 02, T-11: the lists of P11 and P12, in memory that holds zeros. */
 static void asked_before_writing(void) {
     static const uint8_t p11[] = {0x28, 0x01, 0x02, 0x03, 0x04, 0x28, 0x05, 0x06, 0x07, 0x08};
@@ -179,6 +225,7 @@ int main(void) {
     speed_is_read_only();
     shorter_messages();
     bootloader_fram();
+    costs();
     asked_before_writing();
     puts(bad ? "the C face: BAD" : "the C face: ok");
     return bad;

@@ -1,6 +1,6 @@
 /* The header's struct with its functions against the plain calls: two units are set up and fed the same seeded bytes, one each
-   way, and after every call record, number, bytes to be sent, memories and buffers must be the same. Set-ups are in between, some of
-   them refused, and so are bytes while the length of an FRAM is wrong. */
+   way, and after every call record, number, bytes to be sent, cost, memories and buffers must be the same. Set-ups are in between,
+   some of them refused, and so are bytes while the length of an FRAM is wrong. */
 #include "wheel.h"
 
 #include <stdio.h>
@@ -22,7 +22,7 @@ static struct wheel whole = {.edac = wholes.edac,
 static struct wheel_stepped plain;
 static uint32_t diagnostics[WHEEL_DIAGNOSTICS];
 static uint8_t message[WHEEL_MESSAGE], reply[WHEEL_REPLY];
-static unsigned long calls, came[NUMBERS], locked_calls;
+static unsigned long calls, came[NUMBERS], locked_calls, costly_calls;
 
 static uint32_t any(uint32_t below) {
     static uint64_t state = 7;
@@ -45,6 +45,7 @@ static void compare(unsigned number) {
     same("number handed back", number, plain.answer);
     same("number", whole.now.answer, plain.answer);
     same("bytes to be sent", whole.now.sent, plain.sent);
+    same("cost", whole.now.cost, plain.cost);
     same("place of the reply", wheel_reply(&whole, &length) == whole.reply, 1);
     same("length of the reply", length, plain.sent);
     same("bootloader_len", one.bootloader_len, other.bootloader_len);
@@ -61,6 +62,7 @@ static void compare(unsigned number) {
     same("reply buffer", memcmp(whole.reply, reply, sizeof reply) != 0, 0);
     came[number % NUMBERS]++;
     locked_calls += one.locked;
+    costly_calls += plain.cost != 0;
 }
 
 static void set_up(uint8_t address, uint64_t limit, uint8_t locked) {
@@ -147,6 +149,7 @@ int main(void) {
             return 1;
         }
     }
-    printf("the struct and the plain calls agree over %lu calls, %lu of them locked\n", calls, locked_calls);
-    return locked_calls < 10;
+    printf("the struct and the plain calls agree over %lu calls, %lu of them locked, %lu with a cost\n", calls, locked_calls,
+           costly_calls);
+    return locked_calls < 10 || costly_calls < 10;
 }

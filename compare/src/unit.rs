@@ -22,6 +22,7 @@ struct WheelUnit {
 struct WheelStepped {
     unit: WheelUnit,
     sent: u64,
+    cost: u32,
     answer: u8,
 }
 
@@ -154,6 +155,7 @@ impl From<WheelStepped> for Stepped {
             record: stepped.unit.into(),
             answer: stepped.answer,
             sent: length(stepped.sent),
+            cost: stepped.cost,
         }
     }
 }

@@ -20,12 +20,14 @@ pub struct Lent<'a> {
     pub reply: &'a mut [u8],
 }
 
-/// What a call hands back: the record, 01's number of the answer, and the length of what is sent.
+/// What a call hands back: the record, 01's number of the answer, the length of what is sent, and what a CRC command cost
+/// (02, T-13), which is 0 for all else.
 #[derive(Clone, Copy, Debug, PartialEq, Eq)]
 pub struct Stepped {
     pub record: Record,
     pub answer: u8,
     pub sent: usize,
+    pub cost: u32,
 }
 
 pub trait Wheel {
@@ -56,8 +58,7 @@ macro_rules! wheel_of_module {
                 locked: u8,
                 lent: $crate::wheel::Lent,
             ) -> $crate::wheel::Stepped {
-                let (record, answer) = $($module)::+::set_up(address, limit, locked, lent);
-                $crate::wheel::Stepped { record, answer, sent: 0 }
+                $($module)::+::set_up(address, limit, locked, lent)
             }
 
             fn step(
@@ -66,8 +67,7 @@ macro_rules! wheel_of_module {
                 byte: u8,
                 lent: $crate::wheel::Lent,
             ) -> $crate::wheel::Stepped {
-                let (record, answer, sent) = $($module)::+::step(record, byte, lent);
-                $crate::wheel::Stepped { record, answer, sent }
+                $($module)::+::step(record, byte, lent)
             }
 
             fn pack(&self, message: &[u8], reply: &mut [u8]) -> (u8, usize) {

@@ -47,8 +47,8 @@ fn every_answer_and_every_command_comes_often() {
             assert!(times.of(answer) >= 20, "{answer}:\n{tally}");
         }
     }
-    // Every read-only row is written over and beside and shown in every way, every file written, and every end of the limits
-    // and of the two FRAMs met.
+    // Every read-only row is written over and beside and shown in every way, every file written, every end of the limits and of
+    // the two FRAMs met, and every kind of range of a CRC command, with the highest cost.
     let missed = tally.missed();
     assert!(missed.is_empty(), "{missed:#?}\n{tally}");
 }
@@ -58,8 +58,9 @@ fn a_run_that_is_too_short_says_what_it_missed() {
     // 39 rows in nine ways, but for the two ways by file of the one that is no file, and 256 files; four limits, and a count
     // beyond the limit in each of four places; four forms of range from window to window in seven ways, CRC in three more and
     // with each of four ends at each of four, the lock by four answers when locked and when not, POKE in three ways, and two
-    // bytes and three set-ups by what they say of the lock.
-    let all = 39 * 9 - 2 + 256 + 4 + 4 + 4 * 7 + 3 + 16 + 8 + 3 + 5;
+    // bytes and three set-ups by what they say of the lock; in each FRAM 51 ways in which a range lies to the blocks, CRC by two
+    // answers when locked and when not, and two costs; and CRC refused for three reasons by two answers.
+    let all = 39 * 9 - 2 + 256 + 4 + 4 + 4 * 7 + 3 + 16 + 8 + 3 + 5 + 2 * (51 + 4 + 2) + 6;
     let mut tally = Tally::default();
     assert_eq!(tally.missed().len(), all);
     session(&Second, &Second, 1, &mut tally).unwrap();

@@ -209,7 +209,7 @@ fn poke(seeded: &mut Seeded, record: &Record) -> Vec<u8> {
     [&address(start)[..], &stored].concat()
 }
 
-fn crc(seeded: &mut Seeded, record: &Record) -> Vec<u8> {
+pub fn crc(seeded: &mut Seeded, record: &Record) -> Vec<u8> {
     if seeded.one_in(5) {
         let ends = [seeded.pick(&FIRSTS), seeded.pick(&LASTS)];
         return ends.map(u32::to_le_bytes).concat();

@@ -1,11 +1,13 @@
-//! Two wheels side by side over seeded streams of line bytes: after every byte the answer, the record and the length sent
-//! agree, and after every FEND and every refusal every lent buffer whole, with the cells beyond what was lent.
+//! Two wheels side by side over seeded streams of line bytes: after every byte the answer, the record, the length sent and the
+//! cost agree, and after every FEND and every refusal every lent buffer whole, with the cells beyond what was lent.
 //!
 //! A session is a unit's life from its seed alone: `play` chooses what happens, `commands` and `lines` make the bytes, `limits`
-//! hands in limits, `frams` locks bootloader FRAM, `lists` asks about lists of files and sends them, `pair` feeds both wheels and
-//! holds them against each other, `tally`, `rows`, `limits` and `frams` keep what was reached.
+//! hands in limits, `frams` locks bootloader FRAM, `costs` asks for the CRC of ranges of every kind, `lists` asks about lists of
+//! files and sends them, `pair` feeds both wheels and holds them against each other, `tally`, `rows`, `limits`, `frams` and
+//! `costs` keep what was reached.
 
 mod commands;
+mod costs;
 mod frams;
 mod limits;
 mod lines;

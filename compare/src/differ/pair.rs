@@ -152,6 +152,7 @@ impl<'a> Pair<'a> {
             let (data, chip) = (&left.message[3..record.count - 2], &left.frams[BOOTLOADER]);
             let frams = &mut self.tally.frams;
             frams.answered(&record, code, data, one.answer, chip);
+            self.tally.costs.answered(&record, code, data, &one);
             if let (1 | 2, Some(held)) = (one.answer, held) {
                 self.tally.rows.done(code, data, &held);
             }

@@ -2,7 +2,7 @@
 //! lend or lend it wrongly, and callers who ask about lists of files.
 
 use super::pair::{ChipLengths, Lengths, Pair, BOOTLOADER, LARGEST, USER};
-use super::{commands, frams, limits, lines, lists};
+use super::{commands, costs, frams, limits, lines, lists};
 use crate::record::{Mode, Place, Record};
 use crate::second::read_only::ROWS;
 use crate::{Part, Seeded};
@@ -38,11 +38,12 @@ pub fn play(pair: &mut Pair, seeded: &mut Seeded) -> Played {
     for which in FRAMS {
         if pair.lengths.frams[which].bytes == LARGEST {
             one_block_too_many(pair, which)?;
+            costs::largest(pair, seeded, which)?;
         }
     }
     let bytes = bytes_with(&pair.lengths);
     while pair.offset < bytes {
-        match seeded.below(74) {
+        match seeded.below(76) {
             0..=28 => sound_run(pair, seeded)?,
             29..=31 => read_only_row(pair, seeded)?,
             32..=35 => repeated(pair, seeded)?,
@@ -59,7 +60,8 @@ pub fn play(pair: &mut Pair, seeded: &mut Seeded) -> Played {
             68..=69 => lists::sent(pair, seeded)?,
             70 => limits::another(pair, seeded)?,
             71 => limits::wrong(pair, seeded)?,
-            _ => frams::about_the_lock(pair, seeded)?,
+            72..=73 => frams::about_the_lock(pair, seeded)?,
+            _ => costs::asked(pair, seeded)?,
         }
     }
     Ok(())

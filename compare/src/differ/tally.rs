@@ -1,5 +1,6 @@
 //! What the streams reached: a comparison says little about what never came.
 
+use super::costs::Costs;
 use super::frams::Frams;
 use super::limits::Limits;
 use super::rows::Rows;
@@ -55,6 +56,8 @@ pub struct Tally {
     pub limits: Limits,
     /// What was done about the two FRAMs.
     pub frams: Frams,
+    /// What CRC commands cost.
+    pub costs: Costs,
 }
 
 impl Tally {
@@ -73,6 +76,7 @@ impl Tally {
             self.limits.missed(),
             self.rows.missed(),
             self.frams.missed(),
+            self.costs.missed(),
         ]
         .concat()
     }
@@ -92,6 +96,7 @@ impl fmt::Display for Tally {
         writeln!(f, "  sending a judged list: {}", self.sent)?;
         writeln!(f, "  {}", self.limits)?;
         writeln!(f, "  {}", self.frams)?;
+        writeln!(f, "  {}", self.costs)?;
         write!(f, "  {}", self.rows)
     }
 }

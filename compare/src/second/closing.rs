@@ -1,11 +1,11 @@
 //! 01, The line and The message (ICD 10): the tests at the close of a run, and the reply.
 
-use super::command::{self, Memory, No};
+use super::command::{self, Done, Memory, No};
 use super::fram::Frams;
 use super::line::{self, Run};
-use super::{crc, limit};
+use super::{crc, limit, silent};
 use crate::record::Record;
-use crate::wheel::Lent;
+use crate::wheel::{Lent, Stepped};
 
 /// The fewest bytes of a message: two addresses, control and CRC (ICD 10.2).
 pub const SHORTEST: usize = 5;
@@ -26,15 +26,15 @@ enum Judged<'a> {
     Command(&'a [u8]),
 }
 
-/// Closes a run: the record, the answer and the length sent.
-pub fn close(record: Record, run: Run, lent: Lent) -> (Record, u8, usize) {
+/// Closes a run.
+pub fn close(record: Record, run: Run, lent: Lent) -> Stepped {
     match judged(run, &record, lent.message) {
-        Judged::Empty => (record, 0, 0),
+        Judged::Empty => silent(record, 0),
         Judged::Dropped(number) => {
             add_one(number, lent.diagnostics);
-            (record, number, 0)
+            silent(record, number)
         }
-        Judged::ForAnother => (record, 9, 0),
+        Judged::ForAnother => silent(record, 9),
         Judged::Command(command) => {
             let (bootloader, user) = (lent.bootloader, lent.user);
             let memory = Memory {
@@ -78,18 +78,28 @@ fn add_one(number: u8, diagnostics: &mut [u32]) {
     *count = count.saturating_add(1);
 }
 
-/// Carries a command out and answers 1 to 4 or 10.
-fn obeyed(record: Record, command: &[u8], memory: Memory, reply: &mut [u8]) -> (Record, u8, usize) {
+/// Carries a command out and answers 1 to 4 or 10. Only one that is done has a cost, with poll set or clear (02, T-13).
+fn obeyed(record: Record, command: &[u8], memory: Memory, reply: &mut [u8]) -> Stepped {
     let (control, data) = (command[2], &command[3..]);
     let poll = control & POLL != 0;
     let mut after = record;
     match command::carry_out(control & CODE, data, &mut after, memory) {
-        Ok(shown) if poll => (after, 1, send(command, ACK, &shown, reply)),
-        Ok(_) => (after, 2, 0),
+        Ok(Done { shown, cost }) if poll => Stepped {
+            sent: send(command, ACK, &shown, reply),
+            cost,
+            ..silent(after, 1)
+        },
+        Ok(Done { cost, .. }) => Stepped {
+            cost,
+            ..silent(after, 2)
+        },
         // A NACK carries the command's data.
-        Err(No::Refused) if poll => (record, 3, send(command, 0, data, reply)),
-        Err(No::Refused) => (record, 4, 0),
-        Err(No::NotFitted) => (record, 10, 0),
+        Err(No::Refused) if poll => Stepped {
+            sent: send(command, 0, data, reply),
+            ..silent(record, 3)
+        },
+        Err(No::Refused) => silent(record, 4),
+        Err(No::NotFitted) => silent(record, 10),
     }
 }
 

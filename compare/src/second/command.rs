@@ -20,8 +20,14 @@ pub enum No {
     NotFitted,
 }
 
-/// The reply's data, where a command is done.
-type Done = Result<Vec<u8>, No>;
+/// A command that is done: the reply's data, and what it cost.
+pub struct Done {
+    pub shown: Vec<u8>,
+    pub cost: u32,
+}
+
+/// The reply's data of a command that costs nothing, where it is done.
+type Shown = Result<Vec<u8>, No>;
 
 const PING_TEXT: &[u8] = b"WHEEL UNIT NSP 01";
 
@@ -29,7 +35,7 @@ const PING_TEXT: &[u8] = b"WHEEL UNIT NSP 01";
 const APPLICATION: u32 = 0x2005_0000;
 const LOCK: u32 = 0xDEAD_BEEF;
 
-pub fn carry_out(code: u8, data: &[u8], record: &mut Record, memory: Memory) -> Done {
+pub fn carry_out(code: u8, data: &[u8], record: &mut Record, memory: Memory) -> Result<Done, No> {
     let Memory {
         edac,
         frams,
@@ -40,25 +46,26 @@ pub fn carry_out(code: u8, data: &[u8], record: &mut Record, memory: Memory) -> 
     if code >= 0x07 && record.mode == Mode::Bootloader {
         return Err(No::Refused);
     }
-    match code {
+    let shown = match code {
         0x00 => Ok(PING_TEXT.to_vec()),
         0x01 => init(data, record, diagnostics),
         0x02 => peek(data, limit, frams),
         0x03 => poke(data, record.locked != 0, frams),
         0x04 => diagnostic(data, limit, diagnostics),
-        0x06 => crc(data, frams),
+        0x06 => return crc(data, frams),
         0x07 => read_file(data, limit, edac),
         0x08 => write_file(data, limit, edac),
         0x09 => read_edac(data, limit, edac),
         0x0A => write_edac(data, edac),
         0x0B => gather(data, limit, edac),
         _ => Err(No::Refused),
-    }
+    }?;
+    Ok(Done { shown, cost: 0 })
 }
 
 /// Bootloader mode with no data. From the bootloader only: application mode by its one address, and the lock, which is for good
 /// and is shown again where it was there already.
-fn init(data: &[u8], record: &mut Record, diagnostics: &mut [u32]) -> Done {
+fn init(data: &[u8], record: &mut Record, diagnostics: &mut [u32]) -> Shown {
     if data.is_empty() {
         record.mode = Mode::Bootloader;
         return Ok(Vec::new());
@@ -78,7 +85,7 @@ fn init(data: &[u8], record: &mut Record, diagnostics: &mut [u32]) -> Done {
     Err(No::Refused)
 }
 
-fn peek(data: &[u8], limit: usize, frams: Frams) -> Done {
+fn peek(data: &[u8], limit: usize, frams: Frams) -> Shown {
     let count = match data.len() {
         5 => short_count(data[4]),
         6 => long_count(data[4], data[5])?,
@@ -92,7 +99,7 @@ fn peek(data: &[u8], limit: usize, frams: Frams) -> Done {
 }
 
 /// A locked chip is no error: the command is echoed, and nothing is stored (ICD 11.8).
-fn poke(data: &[u8], locked: bool, frams: Frams) -> Done {
+fn poke(data: &[u8], locked: bool, frams: Frams) -> Shown {
     // Five bytes or more, up to the limit: the message has no others.
     if data.len() < 5 {
         return Err(No::Refused);
@@ -105,7 +112,7 @@ fn poke(data: &[u8], locked: bool, frams: Frams) -> Done {
     Ok(data.to_vec())
 }
 
-fn diagnostic(data: &[u8], limit: usize, diagnostics: &[u32]) -> Done {
+fn diagnostic(data: &[u8], limit: usize, diagnostics: &[u32]) -> Shown {
     if data.is_empty() || 5 * data.len() > limit {
         return Err(No::Refused);
     }
@@ -120,8 +127,8 @@ fn diagnostic(data: &[u8], limit: usize, diagnostics: &[u32]) -> Done {
     Ok(shown)
 }
 
-/// The last address is included. One before the first is refused, even outside FRAM.
-fn crc(data: &[u8], frams: Frams) -> Done {
+/// The last address is included. One before the first is refused, even outside FRAM. No other command has a cost (02, T-13).
+fn crc(data: &[u8], frams: Frams) -> Result<Done, No> {
     if data.len() != 8 {
         return Err(No::Refused);
     }
@@ -130,11 +137,13 @@ fn crc(data: &[u8], frams: Frams) -> Done {
         return Err(No::Refused);
     }
     let (_, fram, range) = fram::find(first, u64::from(last - first) + 1, frams)?;
+    let cost = fram::cost(&range, &fram);
     let sum = fram::sum_of_range(range, fram);
-    Ok([data, &sum.to_le_bytes()].concat())
+    let shown = [data, &sum.to_le_bytes()].concat();
+    Ok(Done { shown, cost })
 }
 
-fn read_file(data: &[u8], limit: usize, edac: &[u8]) -> Done {
+fn read_file(data: &[u8], limit: usize, edac: &[u8]) -> Shown {
     if data.is_empty() {
         return Err(No::Refused);
     }
@@ -149,7 +158,7 @@ fn read_file(data: &[u8], limit: usize, edac: &[u8]) -> Done {
 }
 
 /// The list is judged before anything is stored (02, T-11), and the reply shows memory after the whole command.
-fn write_file(data: &[u8], limit: usize, edac: &mut [u8]) -> Done {
+fn write_file(data: &[u8], limit: usize, edac: &mut [u8]) -> Shown {
     if !list::judge_list(limit as u64, data) {
         return Err(No::Refused);
     }
@@ -162,7 +171,7 @@ fn write_file(data: &[u8], limit: usize, edac: &mut [u8]) -> Done {
     Ok(shown)
 }
 
-fn read_edac(data: &[u8], limit: usize, edac: &[u8]) -> Done {
+fn read_edac(data: &[u8], limit: usize, edac: &[u8]) -> Shown {
     let count = match data.len() {
         3 => short_count(data[2]),
         4 => long_count(data[2], data[3])?,
@@ -176,7 +185,7 @@ fn read_edac(data: &[u8], limit: usize, edac: &[u8]) -> Done {
 }
 
 /// The reply shows what memory holds afterwards, which need not be what was sent (02, T-02).
-fn write_edac(data: &[u8], edac: &mut [u8]) -> Done {
+fn write_edac(data: &[u8], edac: &mut [u8]) -> Shown {
     if data.len() < 3 {
         return Err(No::Refused);
     }
@@ -186,7 +195,7 @@ fn write_edac(data: &[u8], edac: &mut [u8]) -> Done {
     Ok([address, &edac[range]].concat())
 }
 
-fn gather(data: &[u8], limit: usize, edac: &[u8]) -> Done {
+fn gather(data: &[u8], limit: usize, edac: &[u8]) -> Shown {
     if data.is_empty() || data.len() % 4 != 0 {
         return Err(No::Refused);
     }

@@ -92,3 +92,19 @@ pub fn sum_of_range(range: Range<usize>, fram: Fram) -> u16 {
     }
     whole.sum
 }
+
+/// What the CRC of a range costs (02, T-13): the bytes of the range that lie in blocks only partly covered, plus the blocks
+/// wholly covered. Counted block by block, and in each byte by byte.
+pub fn cost(range: &Range<usize>, fram: &Fram) -> u32 {
+    let (mut bytes, mut blocks) = (0, 0);
+    for block in 0..fram.bytes.len() / BLOCK {
+        let its_bytes = block * BLOCK..(block + 1) * BLOCK;
+        let in_range = its_bytes.filter(|at| range.contains(at)).count();
+        if in_range == BLOCK {
+            blocks += 1;
+        } else {
+            bytes += in_range;
+        }
+    }
+    (bytes + blocks) as u32
+}

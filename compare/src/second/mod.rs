@@ -1,6 +1,6 @@
-//! The whole unit of 01 a second time, with T-02, T-06, T-07 and T-11 of 02, in plain Rust: what the proved unit is held against.
-//! It is written from 01, 02 and the ICD alone and shares no line with the proved one. It has no table of sums and keeps nothing
-//! between calls, and each sum is worked out bit by bit wherever 01 does not say that it comes from the kept ones.
+//! The whole unit of 01 a second time, with T-02, T-06, T-07, T-11 and T-13 of 02, in plain Rust: what the proved unit is held
+//! against. It is written from 01, 02 and the ICD alone and shares no line with the proved one. It has no table of sums and
+//! keeps nothing between calls, and each sum is worked out bit by bit wherever 01 does not say that it comes from the kept ones.
 //!
 //! A byte's way: `refusals` judges what is lent, `line` unpacks, `closing` judges a closed run, `command` carries it out on
 //! `edac`, where `read_only` says which bytes stay, and `fram`, and `line` packs the reply. `list` judges and stores the files
@@ -20,15 +20,14 @@ pub mod read_only;
 mod refusals;
 
 use crate::record::{Mode, Place, Record, REFUSED};
-use crate::wheel::Lent;
+use crate::wheel::{Lent, Stepped};
 pub use crc::{join, sum};
 pub use list::{judge_list, store_list};
 
-/// 01, The unit and its neighbours: computes all sums, shows the lock and changes nothing else. Hands back the record and the
-/// answer.
-pub fn set_up(address: u8, limit: u64, locked: u8, lent: Lent) -> (Record, u8) {
+/// 01, The unit and its neighbours: computes all sums, shows the lock and changes nothing else.
+pub fn set_up(address: u8, limit: u64, locked: u8, lent: Lent) -> Stepped {
     if let Some(number) = refusals::of_set_up(address, limit, &lent) {
-        return (REFUSED, number);
+        return silent(REFUSED, number);
     }
     let locked = locked != 0;
     let record = Record {
@@ -45,17 +44,16 @@ pub fn set_up(address: u8, limit: u64, locked: u8, lent: Lent) -> (Record, u8) {
     fram::sum_every_block(lent.bootloader);
     fram::sum_every_block(lent.user);
     lock::show(locked, lent.diagnostics);
-    (record, 0)
+    silent(record, 0)
 }
 
-/// 01, One byte in, one answer out: hands back the record, the answer and the length of what is sent, which stands at the
-/// start of the reply buffer.
-pub fn step(record: Record, byte: u8, lent: Lent) -> (Record, u8, usize) {
+/// 01, One byte in, one answer out. What is sent stands at the start of the reply buffer.
+pub fn step(record: Record, byte: u8, lent: Lent) -> Stepped {
     // Any number but 0 is locked, and comes back as 1, from a refused call too.
     let locked = u8::from(record.locked != 0);
     let record = Record { locked, ..record };
     if let Some(number) = refusals::of_step(&record, &lent) {
-        return (record, number, 0);
+        return silent(record, number);
     }
     let longest = limit::longest(record.limit);
     let (place, count, closed) =
@@ -66,8 +64,18 @@ pub fn step(record: Record, byte: u8, lent: Lent) -> (Record, u8, usize) {
         ..record
     };
     match closed {
-        None => (record, 0, 0),
+        None => silent(record, 0),
         Some(run) => closing::close(record, run, lent),
+    }
+}
+
+/// An answer with which nothing is sent, and which cost nothing.
+fn silent(record: Record, answer: u8) -> Stepped {
+    Stepped {
+        record,
+        answer,
+        sent: 0,
+        cost: 0,
     }
 }
 

@@ -3,7 +3,7 @@
 use compare::plain;
 use compare::record::{Mode, Place, Record, REFUSED};
 use compare::unit::Proved;
-use compare::wheel::{Fram, Lent, Second, Wheel};
+use compare::wheel::{Fram, Lent, Second, Stepped, Wheel};
 
 pub const FEND: u8 = 0xC0;
 pub const ADDRESS: u8 = 0x41;
@@ -148,7 +148,7 @@ impl Bench {
     pub fn set_up_as(&mut self, address: u8, limit: u64, locked: u8) -> u8 {
         let wheel = self.program.wheel();
         let stepped = wheel.set_up(address, limit, locked, self.lent());
-        assert_eq!(stepped.sent, 0);
+        assert_eq!((stepped.sent, stepped.cost), (0, 0));
         self.record = stepped.record;
         stepped.answer
     }
@@ -201,10 +201,16 @@ impl Bench {
         bench
     }
 
-    pub fn byte(&mut self, byte: u8) -> (u8, usize) {
+    pub fn step(&mut self, byte: u8) -> Stepped {
         let (wheel, record) = (self.program.wheel(), self.record);
         let stepped = wheel.step(record, byte, self.lent());
         self.record = stepped.record;
+        stepped
+    }
+
+    /// The answer to a byte and the length of what is sent.
+    pub fn byte(&mut self, byte: u8) -> (u8, usize) {
+        let stepped = self.step(byte);
         (stepped.answer, stepped.sent)
     }
 
@@ -213,25 +219,35 @@ impl Bench {
         bytes.iter().map(|&byte| self.byte(byte).0).collect()
     }
 
-    /// Closes the run that some bytes are in and hands back the last answer and what was sent. Every byte before the FEND
-    /// must be taken without an answer.
-    pub fn run(&mut self, bytes: &[u8]) -> (u8, Vec<u8>) {
+    /// Closes the run that some bytes are in. Every byte before the FEND must be taken without an answer.
+    pub fn close(&mut self, bytes: &[u8]) -> Stepped {
         for &byte in bytes {
-            assert_eq!(self.byte(byte), (0, 0));
+            let stepped = self.step(byte);
+            assert_eq!((stepped.answer, stepped.sent, stepped.cost), (0, 0, 0));
         }
-        let (answer, sent) = self.byte(FEND);
-        (answer, self.reply[..sent].to_vec())
+        self.step(FEND)
+    }
+
+    /// The same: the last answer and what was sent.
+    pub fn run(&mut self, bytes: &[u8]) -> (u8, Vec<u8>) {
+        let stepped = self.close(bytes);
+        (stepped.answer, self.reply[..stepped.sent].to_vec())
+    }
+
+    /// Sends a message to this unit. Nothing but a CRC command that is done may cost anything (02, T-13).
+    pub fn ask(&mut self, source: u8, control: u8, data: &[u8]) -> Stepped {
+        let message = message(self.record.address, source, control, data);
+        let stepped = self.close(&escaped(&message));
+        let crc_done = control & 0x1F == 0x06 && matches!(stepped.answer, 1 | 2);
+        assert_eq!(stepped.cost > 0, crc_done);
+        stepped
     }
 
     /// Sends a message of this unit and checks everything about the reply that holds for all.
     pub fn send(&mut self, control: u8, data: &[u8]) -> (u8, Option<Reply>) {
         let (before, source) = (self.reply.clone(), 0x11);
-        let (answer, sent) = self.run(&escaped(&message(
-            self.record.address,
-            source,
-            control,
-            data,
-        )));
+        let Stepped { answer, sent, .. } = self.ask(source, control, data);
+        let sent = self.reply[..sent].to_vec();
         assert_eq!((self.record.place, self.record.count), (Place::Run, 0));
         assert_eq!(self.reply[sent.len()..], before[sent.len()..]);
         if sent.is_empty() {

@@ -16,7 +16,7 @@ fn on_both(tried: impl Fn(Bench)) {
 }
 
 /// A unit with so much of each FRAM.
-fn open(program: Program, bootloader_len: usize, fram_len: usize) -> Bench {
+pub fn open(program: Program, bootloader_len: usize, fram_len: usize) -> Bench {
     let mut unit = Bench::bare_with(program, bootloader_len, fram_len);
     assert_eq!(unit.set_up(ADDRESS), 0);
     assert_eq!(unit.feed(&[FEND]), [0]);
