@@ -22,7 +22,7 @@ def said(pings, replies, written, failure=""):
     """What is due on standard error after so many pings."""
     lines = [failure] if failure else []
     lines += [f"answer 0: {5 * pings + 1}", f"answer 1: {pings}"] if pings else []
-    lines += ["bootloader FRAM: unlocked", f"replies written: {replies}", f"bytes written: {written}", ""]
+    lines += ["bootloader FRAM: unlocked", "largest cost of a CRC: 0", f"replies written: {replies}", f"bytes written: {written}", ""]
     return "\n".join(lines)
 
 
