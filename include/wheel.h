@@ -102,18 +102,19 @@ struct wheel_unit {
     uint8_t locked;          /* bootloader FRAM: WHEEL_UNLOCKED or WHEEL_LOCKED */
 };
 
-/* The most that a CRC command can cost. Its cost is a count, by which a caller can tell how long it took: the bytes of its range
- * that lie in blocks of which the range covers only a part, plus the blocks that it covers as a whole. A block is
- * WHEEL_FRAM_BLOCK bytes of an FRAM, counted from its first byte. */
+/* The most that a CRC command can cost. Its cost is a count and no time, but bounds the time (docs/MEASURED.md): the bytes of
+ * the range that lie in blocks of which it covers only a part, plus the blocks that it covers as a whole. The blocks of an
+ * FRAM, WHEEL_FRAM_BLOCK bytes each, follow one another from the FRAM's first byte. In an FRAM of n blocks it is at most
+ * n + 508, which from two blocks on the range of all but the first and the last byte costs. */
 #define WHEEL_COST_MOST 1532u
 
 /* What a call on a unit gives back: the record afterwards, how many bytes are to be sent from the start of the reply
- * buffer (0 where nothing is sent), what a CRC command cost, and the number of the answer. */
+ * buffer (0 where nothing is sent), the number of the answer, and beside it what a CRC command cost. */
 struct wheel_stepped {
     struct wheel_unit unit;
     uint64_t sent;
-    uint32_t cost;  /* of a CRC command that is done, with poll set or clear: 1 to WHEEL_COST_MOST; of all else 0 */
     uint8_t answer; /* WHEEL_TAKEN to WHEEL_BAD_LIMIT */
+    uint32_t cost;  /* of a CRC command that is done, with poll set or clear: 1 to WHEEL_COST_MOST; of all else 0 */
 };
 
 /* What packing gives back: how many bytes are to be sent from the start of the reply buffer, and the number. */
@@ -208,7 +209,7 @@ struct wheel {
     uint8_t *edac; /* WHEEL_EDAC bytes */
     struct wheel_fram bootloader;
     struct wheel_fram user;
-    struct wheel_stepped now; /* what the last call gave back: the record, how many bytes are to be sent, the cost, the number */
+    struct wheel_stepped now; /* what the last call gave back: the record, how many bytes are to be sent, number and cost */
     uint32_t diagnostics[WHEEL_DIAGNOSTICS];
     uint8_t message[WHEEL_MESSAGE];
     uint8_t reply[WHEEL_REPLY];

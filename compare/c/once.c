@@ -1,7 +1,9 @@
 /* One call of the C face, for an instruction count: `once crc LENGTH` over zeros, `once join LENGTH`, `once set_up LENGTH` with
    so much user FRAM and the least bootloader FRAM, `once both LENGTH` with so much of each, `once last CODE`, the FEND after the
-   dearest message known of that command, `once ask 8` and `once write 8`, the list of that message judged and stored; and LENGTH
-   calls: `once step LENGTH`, of ordinary bytes in a run. It fails where an answer is not the one that is due. */
+   dearest message known of that command, `once ask 8` and `once write 8`, the list of that message judged and stored; `once range
+   FIRST LAST COST`, the FEND after a CRC command over those bytes of user FRAM of 262,144, counted from its first, which costs
+   that; and LENGTH calls: `once step LENGTH`, of ordinary bytes in a run. It fails where an answer or a cost is not the one that
+   is due. */
 #include "wheel.h"
 
 #include <stdio.h>
@@ -48,12 +50,21 @@ static uint16_t crc(const uint8_t *bytes, size_t length) {
     return sum;
 }
 
+/* The address of a place in user FRAM, as a command has it. */
+static void place(uint8_t *bytes, const char *word) {
+    const unsigned long address = WHEEL_USER_FRAM_FIRST + strtoul(word, NULL, 10);
+    for (int i = 0; i < 4; i++) {
+        bytes[i] = (uint8_t)(address >> 8 * i);
+    }
+}
+
 int main(int count, char **words) {
     static uint8_t bytes[262144];
-    if (count != 3) {
+    const int range = count == 5 && strcmp(words[1], "range") == 0;
+    if (count != 3 && !range) {
         return 1;
     }
-    const unsigned long number = strtoul(words[2], NULL, 10);
+    const unsigned long number = range ? 6 : strtoul(words[2], NULL, 10);
     if (words[1][0] == 'c' && number <= sizeof bytes) {
         printf("%04x\n", wheel_crc(bytes, number));
     } else if (words[1][0] == 'j') {
@@ -78,9 +89,15 @@ int main(int count, char **words) {
             wheel.bootloader.length = words[1][0] == 'b' ? number : WHEEL_FRAM_LEAST;
             return wheel_begin(&wheel, 0x41, WHEEL_LIMIT_MOST, WHEEL_UNLOCKED) != WHEEL_TAKEN;
         }
-        if (strcmp(words[1], "last") == 0) {
+        if (range || strcmp(words[1], "last") == 0) {
             uint8_t *message = wheel.message;
             const size_t end = 3 + dear(number, message + 3);
+            if (range) { /* with as many bytes 0xC0 in the reply as the range allows: each is packed as two */
+                place(message + 3, words[2]);
+                place(message + 7, words[3]);
+                message[1] = 0xC0;
+                memset(user_sums, 0xC0, sizeof user_sums);
+            }
             message[0] = 0x41;
             message[2] = (uint8_t)(0x80 + number);
             message[end + 1] = (uint8_t)(crc(message, end) >> 8);
@@ -90,7 +107,7 @@ int main(int count, char **words) {
             wheel.now.unit.fram_len = WHEEL_FRAM_MOST;
             wheel.now.unit.mode = WHEEL_APPLICATION;
             wheel.now.unit.count = end + 2;
-            return wheel_byte(&wheel, 0xC0) != WHEEL_ACKED;
+            return wheel_byte(&wheel, 0xC0) != WHEEL_ACKED || (range && wheel.now.cost != strtoul(words[4], NULL, 10));
         }
         if (strcmp(words[1], "step") != 0) {
             return 1;

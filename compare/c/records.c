@@ -262,8 +262,8 @@ int main(void) {
     before = lent;
     same("size of a record", sizeof(struct wheel_unit), 32);
     same("size of what a call gives back", sizeof(struct wheel_stepped), 48);
-    same("place of the cost", offsetof(struct wheel_stepped, cost), 40);
-    same("place of the number", offsetof(struct wheel_stepped, answer), 44);
+    same("place of the cost", offsetof(struct wheel_stepped, cost), 44);
+    same("place of the number", offsetof(struct wheel_stepped, answer), 40);
 
     /* A refused call hands the record back: every field, with all bits of the wide ones. */
     const uint64_t wide[] = {0, 1, 0x0123456789ABCDEFu, 0xFEDCBA9876543210u, 0xFFFFFFFFFFFFFFFFu};

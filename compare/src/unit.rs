@@ -22,8 +22,8 @@ struct WheelUnit {
 struct WheelStepped {
     unit: WheelUnit,
     sent: u64,
-    cost: u32,
     answer: u8,
+    cost: u32,
 }
 
 #[repr(C)]

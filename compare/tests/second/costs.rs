@@ -135,7 +135,7 @@ fn no_range_costs_more_than_1532() {
 }
 
 #[test]
-fn the_most_by_the_length_of_an_fram() {
+fn all_but_the_first_and_the_last_byte_of_an_fram() {
     for program in PROGRAMS {
         for (blocks, due) in [(1, 254), (2, 510), (3, 511), (64, 572), (1_024, 1_532)] {
             let length = 256 * blocks;

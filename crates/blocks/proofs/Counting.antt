@@ -5,7 +5,7 @@ use native.Mathlib.Omega.{arith}
 use borrow.Author.Tests.{le-leb, lt-leb, lt-ltb}
 use Rattle.memory.proofs.Tests.{either-side}
 use Rattle.blocks.specs.Fram.{blockStart, covers}
-use Rattle.blocks.specs.Cost.{howMany, liesInPart, costOf}
+use Rattle.blocks.specs.Cost.{howMany, liesInPart, rangeCost}
 
 -- the first block that starts at `from` or behind it
 abbrev pub firstFrom : ℕ → ℕ
@@ -42,24 +42,29 @@ module _ (from to : ℕ) where
       (λ not-begun. rw (lt-leb from n not-begun) (omega (arith, before)))
 
   -- with 255 more for each covered block it is the size of the range
-  pub the-cost-in-numbers : costOf from to + (to / 256 - firstFrom from) * 255 ≡ to - from
-  unfolding costOf
+  pub the-cost-in-numbers : rangeCost from to + (to / 256 - firstFrom from) * 255 ≡ to - from
+  unfolding rangeCost
   the-cost-in-numbers = omega (arith, blocks-below to, bytes-below to (omega arith))
 
 -- ---- the ceiling (02, T-13)
 
--- In a memory of so many blocks no range costs more than 508 above their number: of 1,024 blocks, 1,532.
-pub no-range-costs-more : (blocks from to : ℕ) → to ≤ blockStart blocks → costOf from to ≤ blocks + 508
+-- In a memory of so many blocks no range costs more than 508 above their number: of 1,024 blocks, 1,532. (At most two of them are partly covered,
+-- with 255 bytes each.)
+pub no-range-costs-more : (blocks from to : ℕ) → to ≤ blockStart blocks → rangeCost from to ≤ blocks + 508
 no-range-costs-more blocks from to inside = omega (arith, the-cost-in-numbers from to)
 
--- And one does, where there are two or more: from the second byte to the last but one.
-pub the-range-that-costs-most : (blocks : ℕ) → 2 ≤ blocks → costOf 1 (blockStart blocks - 1) ≡ blocks + 508
+-- And one costs just that, where there are two or more: from the second byte to the last but one.
+pub the-range-that-costs-most : (blocks : ℕ) → 2 ≤ blocks → rangeCost 1 (blockStart blocks - 1) ≡ blocks + 508
 the-range-that-costs-most blocks some = omega (arith, the-cost-in-numbers 1 (blockStart blocks - 1))
 
+-- Of 262,144 bytes:
+pub a-range-that-costs-1532 : rangeCost 1 262143 ≡ 1532
+a-range-that-costs-1532 = the-range-that-costs-most 1024 (omega arith)
+
 -- Whatever the memory is, by the size of the range.
-pub no-range-costs-more-than-by-its-size : (from to : ℕ) → costOf from to ≤ (to - from) / 256 + 510
+pub no-range-costs-more-than-by-its-size : (from to : ℕ) → rangeCost from to ≤ (to - from) / 256 + 510
 no-range-costs-more-than-by-its-size from to = omega (arith, the-cost-in-numbers from to)
 
 -- A range that has a byte costs something.
-pub a-range-costs-something : (from to : ℕ) → from < to → 1 ≤ costOf from to
+pub a-range-costs-something : (from to : ℕ) → from < to → 1 ≤ rangeCost from to
 a-range-costs-something from to some = omega (arith, the-cost-in-numbers from to)

@@ -8,7 +8,7 @@ use Rattle.crc.specs.Joining.{joinedOf, joinAll}
 use Rattle.blocks.specs.declared.Found.the-variants.{At, Outside}
 use Rattle.memory.specs.Bytes.{stored}
 use Rattle.blocks.specs.Fram.{refreshed, kept, storeOf, partsFrom, rangeSum, placeOf}
-use Rattle.blocks.specs.Cost.{howMany, costOf}
+use Rattle.blocks.specs.Cost.{howMany, rangeCost}
 
 -- Two blocks of zeros.
 abbrev zeros : List ℕ
@@ -57,29 +57,29 @@ unfolding placeOf
 past-the-last-address = refl
 
 -- A block costs 1 as a whole, and one byte less costs its bytes.
-pub a-block-costs-one : costOf 256 512 ≡ 1
-unfolding costOf howMany
+pub a-block-costs-one : rangeCost 256 512 ≡ 1
+unfolding rangeCost howMany
 a-block-costs-one = refl
 
-pub one-byte-less-costs-its-bytes : costOf 256 511 ≡ 255
-unfolding costOf howMany
+pub one-byte-less-costs-its-bytes : rangeCost 256 511 ≡ 255
+unfolding rangeCost howMany
 one-byte-less-costs-its-bytes = refl
 
 -- One byte on each side of an edge: two bytes, and no block.
-pub two-bytes-across-an-edge-cost-two : costOf 255 257 ≡ 2
-unfolding costOf howMany
+pub two-bytes-across-an-edge-cost-two : rangeCost 255 257 ≡ 2
+unfolding rangeCost howMany
 two-bytes-across-an-edge-cost-two = refl
 
 -- 56 bytes, a block, and 88 bytes.
-pub a-block-between-two-parts : costOf 200 600 ≡ 145
-unfolding costOf howMany
+pub a-block-between-two-parts : rangeCost 200 600 ≡ 145
+unfolding rangeCost howMany
 a-block-between-two-parts = refl
 
 -- 255 bytes, two blocks, and 255 bytes: the most that four blocks can cost.
-pub the-dearest-of-four-blocks : costOf 1 1023 ≡ 512
-unfolding costOf howMany
+pub the-dearest-of-four-blocks : rangeCost 1 1023 ≡ 512
+unfolding rangeCost howMany
 the-dearest-of-four-blocks = refl
 
-pub no-bytes-cost-nothing : costOf 300 300 ≡ 0
-unfolding costOf howMany
+pub no-bytes-cost-nothing : rangeCost 300 300 ≡ 0
+unfolding rangeCost howMany
 no-bytes-cost-nothing = refl

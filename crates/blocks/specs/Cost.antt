@@ -14,5 +14,5 @@ abbrev pub liesInPart : ℕ → ℕ → ℕ → Bool
 liesInPart from to at = (leb from at && ltb at to) && not (covers from to (at / blockSize))
 
 -- Range bytes lying in blocks only partly covered, plus blocks wholly covered: of both, those with a number below `to` are all that there are.
-unfoldable pub costOf : ℕ → ℕ → ℕ
-costOf from to = howMany (liesInPart from to) to + howMany (covers from to) to
+unfoldable pub rangeCost : ℕ → ℕ → ℕ
+rangeCost from to = howMany (liesInPart from to) to + howMany (covers from to) to

@@ -2,12 +2,15 @@
 use crate::BLOCK_SIZE;
 use crate::LAST_PLACE;
 ghost use mathlib.Core.Path.{_≡_};
-ghost use Rattle.blocks.specs.Cost.{costOf};
+ghost use Rattle.blocks.specs.Cost.{rangeCost};
 
-// How many bytes of the range from `from` up to `to` lie in blocks only partly covered, plus how many blocks are wholly covered: each of
-// these counts one in place of its bytes.
+// What a covered block counts less than its bytes: it counts one.
+const SPARED: usize = 255;
+
+// How many bytes of the range from `from` up to `to` lie in blocks only partly covered, plus how many blocks are wholly covered. The first of
+// these is worked out without a sum that could be too large, since nothing is asked of `from`.
 pub fn range_cost(from: usize, to: usize) -> usize
-    ensures { λ r. ⌜ r ≡ costOf from to ⌝ }
+    ensures { λ r. ⌜ r ≡ rangeCost from to ⌝ }
 {
     if to <= from {
         return 0;
@@ -18,5 +21,5 @@ pub fn range_cost(from: usize, to: usize) -> usize
     if end <= first {
         return size;
     }
-    size - (end - first) * LAST_PLACE
+    size - (end - first) * SPARED
 }

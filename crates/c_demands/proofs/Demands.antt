@@ -3,6 +3,7 @@
 -- Assumes nothing.
 use mathlib.Core.Path.{_≡_, refl, sym, ap, ap₂, _∙_, subst}
 use mathlib.Core.Bool.{Bool, true, false, false≢true}
+use mathlib.Core.Logic.{_⊎_, inl, inr}
 use mathlib.Core.List.{List, [], _∷_, _++_, map}
 use Prim.Native.Nat.{ℕ, zero, suc, _+_, _-_, _≤_}
 use native.Mathlib.Omega.{arith}
@@ -15,7 +16,7 @@ use Rattle.line.specs.Receiver.{opened}
 use Rattle.line.proofs.Laying.{a-short-reply-buffer-is-refused, a-short-message-is-refused, a-long-message-is-refused, a-message-of-legal-length-is-packed}
 use Rattle.field.specs.Fields.{bytes16, bytes32}
 use Rattle.memory.specs.Bytes.{stretch, begun}
-use Rattle.blocks.specs.Cost.{costOf}
+use Rattle.blocks.specs.Cost.{rangeCost}
 use Rattle.read_only.specs.ReadOnly.{KeepsReadOnly}
 use Rattle.memory.proofs.Tests.{either-side}
 use Rattle.read_only.proofs.Keeping.{kept-at-first, also-kept}
@@ -52,7 +53,7 @@ use Rattle.demands.proofs.Orders.{a-sent-command-is-carried-out, a-command-that
 use Rattle.demands.proofs.DemandThree.{the-limit-stays-and-the-count-stops-above-it, after-any-calls-the-sums-are-right, the-CRC-sent-is-fresh}
 use Rattle.demands.proofs.Limits.{with-no-limit-no-byte-is-served}
 use Rattle.demands.proofs.Keeping.{a-step-keeps-read-only-bytes, storing-keeps-read-only-bytes, a-set-up-keeps-edac}
-use Rattle.demands.proofs.Costing.{what-every-answer-costs, a-set-up-costs-nothing, a-CRC-sent-costs-its-range}
+use Rattle.demands.proofs.Costing.{what-every-answer-costs, a-set-up-costs-nothing, a-CRC-sent-costs-its-range, a-CRC-that-costs-1532}
 use Rattle.demands.proofs.Locked.{once-locked-no-bytes-change-bootloader-FRAM}
 use Rattle.demands.proofs.Asking.{done-exactly-where-judged-fit, the-command-leaves-what-storing-leaves}
 use Rattle.c_demands.specs.FromC.{FromC, Steps, SetsUp, callOf, callsOf, LeavesInC, CostsInC, OnTheLine, Packs, bytesFromC, toBeSent, numbersOf, Follow, lastUnit, lastFrams, Judges, Stores, AnyFromC, setting-up, stepping, storing, OnOneEdac, lastEdac}
@@ -135,9 +136,15 @@ module _ (u : WheelUnit) (c : FromC) (steps : Steps u c) where
         nothing-unless-a-command-is-done = λ one two. cost ∙ costs .nothing-unless-a-command-is-done (λ e. one (number ∙ e)) (λ e. two (number ∙ e));
         nothing-unless-it-is-CRC = λ other.
             cost ∙ costs .nothing-unless-it-is-CRC (λ e. other (ap (λ (w : World). codeOf (getD (w .buffers .message) 2 0)) left ∙ e));
-        at-most = omega (arith, cost, costs .at-most);
-        for-one-memory-at-most = omega (arith, cost, costs .for-one-memory-at-most);
+        something-of-a-CRC-that-is-done = λ is-done code.
+            let some = costs .something-of-a-CRC-that-is-done (so is-done) (ap (λ (w : World). codeOf (getD (w .buffers .message) 2 0)) (sym left) ∙ code) in omega (arith, cost, some);
+        by-the-larger-FRAM = omega (arith, cost, costs .by-the-larger-FRAM);
+        at-most-1532 = omega (arith, cost, costs .at-most-1532);
       }
+    where
+      so : (c .back .answer ≡ 1) ⊎ (c .back .answer ≡ 2) → (numberOf (o .answer) ≡ 1) ⊎ (numberOf (o .answer) ≡ 2)
+      so (inl one) = inl (sym number ∙ one)
+      so (inr two) = inr (sym number ∙ two)
 
   -- 02, T-06. A record with a limit outside 260 to 1,028 is refused, whatever else is lent, and nothing that was lent changes.
   pub with-no-limit-no-byte-from-C-is-served : isLimit (u .limit) ≡ false → (20 ≤ c .back .answer) × (c .left ≡ c .lent)
@@ -204,10 +211,17 @@ module _ (u : WheelUnit) (message : List ℕ) (calls : List FromC) (c : FromC) (
   -- 02, T-13. A CRC command, with poll set or clear, for a range inside one of the FRAMs that the last call lends, whatever sums are kept, says beside
   -- its answer what its range costs: its bytes in blocks only partly covered, plus the blocks wholly covered.
   pub a-CRC-from-C-costs-its-range : (source control first last : ℕ) → Sends (unitIn u) message source control (bytes32 first ++ bytes32 last) (callsOf calls) (callOf c)
-      → codeOf control ≡ 0x06 → (which : Which) → Inside which (c .lent .frams) first last → c .back .cost ≡ costOf (first - firstOf which) (last + 1 - firstOf which)
+      → codeOf control ≡ 0x06 → (which : Which) → Inside which (c .lent .frams) first last → c .back .cost ≡ rangeCost (first - firstOf which) (last + 1 - firstOf which)
   a-CRC-from-C-costs-its-range source control first last sends code which range =
       ap (λ (r : Returned). r .stepped .cost) (the-line-from-C u message calls c on .1)
       ∙ a-CRC-sent-costs-its-range (unitIn u) message source control first last (callsOf calls) (callOf c) sends code which range
+
+  -- So in an FRAM of 262,144 bytes the range from the second byte to the last but one costs 1,532.
+  pub the-dearest-CRC-from-C : (source control first last : ℕ) → Sends (unitIn u) message source control (bytes32 first ++ bytes32 last) (callsOf calls) (callOf c)
+      → codeOf control ≡ 0x06 → (which : Which) → Inside which (c .lent .frams) first last → first ≡ firstOf which + 1 → last ≡ firstOf which + 262142 → c .back .cost ≡ 1532
+  the-dearest-CRC-from-C source control first last sends code which range second last-but-one =
+      ap (λ (r : Returned). r .stepped .cost) (the-line-from-C u message calls c on .1)
+      ∙ a-CRC-that-costs-1532 (unitIn u) message source control first last (callsOf calls) (callOf c) sends code which range second last-but-one
 
   -- The round trip. What `wheel_pack` packs, if it is no longer than the unit's limit allows, given so to a unit that has nothing open, by calls
   -- that are served, stands in the message buffer byte for byte when the last byte has come, whether the unit takes it for sound or not.

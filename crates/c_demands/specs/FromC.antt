@@ -3,6 +3,7 @@
 use Prim.Native.Nat.{ℕ, _+_, _≤_, max}
 use mathlib.Core.Path.{_≡_}
 use mathlib.Core.Bool.{_||_}
+use mathlib.Core.Logic.{_⊎_}
 use mathlib.Core.List.{List, [], _∷_, _++_}
 use lib.ListN.{length, take, getD}
 use Rattle.line.specs.Packing.{packOf}
@@ -63,13 +64,14 @@ pub record LeavesInC (u : WheelUnit) (c : FromC) : Type 0 where
   pub fram-length : c .back .unit .«fram_len» ≡ u .«fram_len»
   pub limit : c .back .unit .limit ≡ u .limit
 
--- What it says that it cost (02, T-13): 0 for every answer but a CRC command that is done, and for one memory at most 1,532, or 508 above the number
--- of blocks of the larger FRAM.
+-- What it says that it cost (02, T-13): 0 for every answer but a CRC command that is done, which costs something; never more than 508 above the number
+-- of blocks of the larger FRAM, and so for one memory at most 1,532.
 pub record CostsInC (c : FromC) : Type 0 where
   pub nothing-unless-a-command-is-done : (c .back .answer ≡ 1 → ⊥) → (c .back .answer ≡ 2 → ⊥) → c .back .cost ≡ 0
   pub nothing-unless-it-is-CRC : (codeOf (getD (c .left .buffers .message) 2 0) ≡ 0x06 → ⊥) → c .back .cost ≡ 0
-  pub at-most : c .back .cost ≤ max (length (c .lent .frams .bootloader .sums)) (length (c .lent .frams .user .sums)) + 508
-  pub for-one-memory-at-most : c .back .cost ≤ 1532
+  pub something-of-a-CRC-that-is-done : (c .back .answer ≡ 1) ⊎ (c .back .answer ≡ 2) → codeOf (getD (c .left .buffers .message) 2 0) ≡ 0x06 → 1 ≤ c .back .cost
+  pub by-the-larger-FRAM : c .back .cost ≤ max (length (c .lent .frams .bootloader .sums)) (length (c .lent .frams .user .sums)) + 508
+  pub at-most-1532 : c .back .cost ≤ 1532
 
 -- ---- demand 2: bytes on the line, one by one
 

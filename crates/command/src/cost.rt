@@ -8,7 +8,7 @@ ghost use Rattle.command.specs.Cost.{commandCost};
 const CRC: u8 = 0x06;
 
 // What the command of a code costs that came to this, with this data.
-pub fn cost_of(code: u8, ended: Ended, field: &[u8]) -> u32
+pub fn command_cost(code: u8, ended: Ended, field: &[u8]) -> u32
     ensures { λ r. ⌜ r ≡ commandCost code ended (now (field .entry)) ⌝ }
 {
     if code == CRC {

@@ -37,14 +37,14 @@ use Rattle.demands.specs.Leaving.{SetUpRefusal}
 
 -- ---- a call that is not refused
 
--- a byte taken, a message for another, a dropped run with its number and its diagnostic, and a command with data of legal length; and of each
--- whether it locks bootloader FRAM
+-- a byte taken, a message for another, a dropped run with its number and its diagnostic, and a command with the control that the message buffer has
+-- and data of legal length; and of each whether it locks bootloader FRAM
 pub record Each (P : Bool → Outcome → Type 0) (u : Unit) (w : World) : Type 0 where
   pub taken : P false (outcome u Taken w)
   pub elsewhere : P false (outcome u Elsewhere w)
   pub dropped : (answer : Answer) (which : ℕ) → numberOf answer ≡ 5 + which → which < 4 → sentOf answer ≡ 0
       → P false (outcome u answer (withDiagnostics w (countedUp (w .diagnostics) (firstCount + which))))
-  pub commanded : (destination source control : ℕ) (field : List ℕ) → length field ≤ u .limit
+  pub commanded : (destination source control : ℕ) (field : List ℕ) → control ≡ getD (w .buffers .message) 2 0 → length field ≤ u .limit
       → P (isLocking (codeOf control) (u .mode) field) (orderedOf u destination source control field w)
 
 module _ (P : Bool → Outcome → Type 0) (u : Unit) (w : World) (each : Each P u w) where
@@ -58,7 +58,7 @@ module _ (P : Bool → Outcome → Type 0) (u : Unit) (w : World) (each : Each P
       (λ _. either-way Served (ltb (largestMessage (u .limit)) count) _ _ (λ _. each .dropped Oversize 2 refl (omega arith) refl)
       (λ within. either-way Served (soundOf count (w .buffers .message)) _ _
       (λ _. either-way Served (eqb (getD (w .buffers .message) 0 0) (u .address)) _ _
-      (λ _. each .commanded _ _ _ (stretch 3 (count - 5) (w .buffers .message)) (short (ltb-false (largestMessage (u .limit)) count within)))
+      (λ _. each .commanded _ _ _ (stretch 3 (count - 5) (w .buffers .message)) refl (short (ltb-false (largestMessage (u .limit)) count within)))
       (λ _. each .elsewhere))
       (λ _. each .dropped BadCrc 3 refl (omega arith) refl)))
     where

@@ -164,7 +164,7 @@ module _ (u : Unit) (w : World) (receiver : Receiver) (message : List ℕ) where
         taken = quiet Taken (omega arith) refl refl;
         elsewhere = quiet Elsewhere (omega arith) refl refl;
         dropped = a-drop;
-        commanded = λ destination source control field short. a-command destination source control field _ (commandOf (u .limit) (codeOf control) (heldOf next heard) field)
+        commanded = λ destination source control field told short. a-command destination source control field _ (commandOf (u .limit) (codeOf control) (heldOf next heard) field)
             (what-a-command-marks (u .limit) (codeOf control) (heldOf next heard) field);
       }
 
@@ -220,7 +220,7 @@ unfolding answered
 what-the-message-buffer-holds u byte w fits =
     of-any-call (λ _ (o : Outcome). o .world .buffers .message ≡ receiveOf (largestMessage (u .limit)) (u .receiver) byte (w .buffers .message) .message) u byte w
     (λ answer e. let z : Fits ≡ Unfit answer = sym fits ∙ e in let o : _≡_ {A = ℕ} 0 1 = cc in absurd (omega arith))
-    (λ _. record { taken = refl; elsewhere = refl; dropped = λ answer which number four silent. refl; commanded = λ destination source control field short. refl })
+    (λ _. record { taken = refl; elsewhere = refl; dropped = λ answer which number four silent. refl; commanded = λ destination source control field told short. refl })
 
 -- For any address, limit and lock, and lent buffers of any length.
 pub what-set-up-leaves : (address limit : ℕ) (locked : Bool) (w : World) → SetUpLeaves address limit locked w (setUpOf address limit locked w)

@@ -183,7 +183,7 @@ module _ (Q : Frams → Type 0) where
         taken = good;
         elsewhere = good;
         dropped = λ answer which number four silent. good;
-        commanded = λ destination source control field short.
+        commanded = λ destination source control field told short.
             answered-keeps next destination source control field (commandOf (u .limit) (codeOf control) (heldOf next lent) field) lent good
             (command-keeps (u .limit) (codeOf control) (heldOf next lent) field good (pokes (u .limit) field));
       })
@@ -199,7 +199,7 @@ unfolding answered
 step-low u byte w low =
     let still = the-count-never-passes-one-above-the-largest (largestMessage (u .limit)) (byte ∷ []) (u .receiver) (w .buffers .message) low in
     of-any-call (λ _ (o : Outcome). o .unit .receiver .count ≤ largestMessage (u .limit) + 1) u byte w (λ answer e. low)
-    (λ _. record { taken = still; elsewhere = still; dropped = λ answer which number four silent. still; commanded = λ destination source control field short. still })
+    (λ _. record { taken = still; elsewhere = still; dropped = λ answer which number four silent. still; commanded = λ destination source control field told short. still })
 
 -- what a unit has from its set-up on
 record Goes (address limit bootloader's user's : ℕ) (s : Own) : Type 0 where

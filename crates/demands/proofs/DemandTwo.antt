@@ -172,7 +172,7 @@ unfolding answered
 the-receiver-is-the-line's u byte w fits =
     of-any-call (λ _ (o : Outcome). o .unit .receiver ≡ receiveOf (largestMessage (u .limit)) (u .receiver) byte (w .buffers .message) .receiver) u byte w
     (λ answer e. let z : Fits ≡ Unfit answer = sym fits ∙ e in let o : _≡_ {A = ℕ} 0 1 = cc in absurd (omega arith))
-    (λ _. record { taken = refl; elsewhere = refl; dropped = λ answer which number four silent. refl; commanded = λ destination source control field short. refl })
+    (λ _. record { taken = refl; elsewhere = refl; dropped = λ answer which number four silent. refl; commanded = λ destination source control field told short. refl })
 
 -- A FEND that is served opens a run, whatever it closed.
 pub a-served-FEND-opens-a-run : (u : Unit) (message : List ℕ) (c : Call) → Serves u → Suits u (length message) c → c .byte ≡ fend
@@ -342,7 +342,7 @@ module _ (u : Unit) (message : List ℕ) (calls : List Call) (c : Call) (serves 
     a-packed-message-stands-in-the-buffer idle is =
         ap (λ (f : Fed). f .last .world .buffers .message) (a-packed-message-is-judged idle is)
         ∙ of-anything-heard (λ _ (o : Outcome). o .world .buffers .message ≡ m ++ drop (length m) message) (withReceiver u opened) (lentTo (m ++ drop (length m) message) c)
-        (record { taken = refl; elsewhere = refl; dropped = λ answer which number four silent. refl; commanded = λ destination source control field short. refl })
+        (record { taken = refl; elsewhere = refl; dropped = λ answer which number four silent. refl; commanded = λ destination source control field told short. refl })
         (heard.Message (length m))
 
   module _ (destination source control : ℕ) (field : List ℕ) (bytes : Bytes (destination ∷ source ∷ control ∷ field)) (short : length field ≤ u .limit) where
@@ -472,7 +472,7 @@ module _ (u : Unit) (byte : ℕ) (w : World) where
         taken = (omega arith, omega arith);
         elsewhere = (omega arith, omega arith);
         dropped = λ answer which number four silent. (omega arith, omega arith);
-        commanded = λ destination source control field short.
+        commanded = λ destination source control field told short.
             let few = answered-fits next destination source control field (commandOf (u .limit) (codeOf control) (heldOf next lent) field) lent short
             (every-reply-has-room (u .limit) (at-least-a-PING (u .limit) limited) (codeOf control) (heldOf next lent) field) in
             (few, omega arith);

@@ -118,7 +118,7 @@ a-step-keeps-read-only-bytes u byte w =
       taken = kept-at-first (w .edac);
       elsewhere = kept-at-first (w .edac);
       dropped = λ answer which number four silent. kept-at-first (w .edac);
-      commanded = λ destination source control field short.
+      commanded = λ destination source control field told short.
           answered-keeps next destination source control field (commandOf (u .limit) (codeOf control) (heldOf next lent) field) lent
           (command-keeps (u .limit) (codeOf control) (heldOf next lent) field);
     })

@@ -36,7 +36,7 @@ unfolding answered
 no-byte-is-stored-past-the-limit u byte w =
     let kept = bytes-at-or-past-the-largest-never-change (largestMessage (u .limit)) (byte ∷ []) (u .receiver) (w .buffers .message) in
     of-any-call (λ _ (o : Outcome). drop (largestMessage (u .limit)) (o .world .buffers .message) ≡ drop (largestMessage (u .limit)) (w .buffers .message)) u byte w (λ answer e. refl)
-    (λ _. record { taken = kept; elsewhere = kept; dropped = λ answer which number four silent. kept; commanded = λ destination source control field short. kept })
+    (λ _. record { taken = kept; elsewhere = kept; dropped = λ answer which number four silent. kept; commanded = λ destination source control field told short. kept })
 
 -- ---- 29
 

@@ -14,11 +14,11 @@ use Rattle.memory.specs.Edac.{bodySize, fileShown}
 use Rattle.read_only.specs.Files.{fileStored}
 use Rattle.memory.specs.Status.{statusWritten}
 use Rattle.blocks.specs.Fram.{freshSums, freshFrom, refreshed, storeOf, partsFrom, rangeSum, placeOf}
-use Rattle.blocks.specs.Cost.{howMany, costOf}
+use Rattle.blocks.specs.Cost.{howMany, rangeCost}
 use Rattle.fram_commands.specs.Peek.{peekOf, peekRangeOf}
 use Rattle.fram_commands.specs.Poke.{pokeOf}
 use Rattle.fram_commands.specs.Crc.{crcOf}
-use Rattle.fram_commands.specs.Cost.{rangeCost}
+use Rattle.fram_commands.specs.Cost.{fieldCost}
 use Rattle.fram_commands.specs.ByAddress.{peekByAddress, pokeByAddress, crcByAddress}
 use Rattle.file_commands.specs.ReadFile.{filesShown, filesWidth, readFileOf}
 use Rattle.file_commands.specs.WriteFile.{judgeListOf, writeFileOf}
@@ -33,7 +33,7 @@ use Rattle.unit.specs.Steps.{setUpOf, answered, commandedOf, servedOf, stepOf}
 use Rattle.demands.specs.Worked.{WorkedExamples}
 
 pub the-worked-examples-hold : WorkedExamples
-unfolding stepOf setUpOf setUpFit stepFit lengthsFit freshSums freshFrom judgeOf receivedOf receiveOf insideOf afterEscapeOf closedOf storedOf countedOf verdictOf runOf servedOf countedUp commandedOf answered saidOf saying sealed replyMessage commandOf initOf statusWritten peekByAddress peekOf peekRangeOf pokeByAddress pokeOf storeOf refreshed crcByAddress crcOf rangeSum partsFrom joinAll joinedOf carried rangeCost costOf howMany placeOf escapedOf begun sumOf sumFrom byteStep bitSteps bitStep readFileOf filesShown filesWidth fileShown bodySize judgeListOf writeFileOf writeEdacOf listedFrom fileStored written keeping readOnly stored diagnosticOf allChannels channelsShown
+unfolding stepOf setUpOf setUpFit stepFit lengthsFit freshSums freshFrom judgeOf receivedOf receiveOf insideOf afterEscapeOf closedOf storedOf countedOf verdictOf runOf servedOf countedUp commandedOf answered saidOf saying sealed replyMessage commandOf initOf statusWritten peekByAddress peekOf peekRangeOf pokeByAddress pokeOf storeOf refreshed crcByAddress crcOf rangeSum partsFrom joinAll joinedOf carried fieldCost rangeCost howMany placeOf escapedOf begun sumOf sumFrom byteStep bitSteps bitStep readFileOf filesShown filesWidth fileShown bodySize judgeListOf writeFileOf writeEdacOf listedFrom fileStored written keeping readOnly stored diagnosticOf allChannels channelsShown
 the-worked-examples-hold = record {
   P1 = sum.P1;
   P2 = sum.P2;

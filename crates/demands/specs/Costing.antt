@@ -1,5 +1,6 @@
 -- What a call with a byte says that it cost: 02, T-13. Assumes nothing.
 use mathlib.Core.Path.{_≡_}
+use mathlib.Core.Logic.{_⊎_}
 use Prim.Native.Nat.{_+_, _≤_, max}
 use lib.ListN.{length, getD}
 use Rattle.answer.specs.Answers.{numberOf}
@@ -11,6 +12,8 @@ pub record Costs (w : World) (o : Outcome) : Type 0 where
   -- 0 for every answer but a CRC command that is done: for all but 1 and 2, and for every other code than 0x06.
   pub nothing-unless-a-command-is-done : (numberOf (o .answer) ≡ 1 → ⊥) → (numberOf (o .answer) ≡ 2 → ⊥) → o .cost ≡ 0
   pub nothing-unless-it-is-CRC : (codeOf (getD (o .world .buffers .message) 2 0) ≡ 0x06 → ⊥) → o .cost ≡ 0
-  -- For one memory at most 1,532, that is 508 above its blocks where it has as many as it can, and else so much less.
-  pub at-most : o .cost ≤ max (length (w .frams .bootloader .sums)) (length (w .frams .user .sums)) + 508
-  pub for-one-memory-at-most : o .cost ≤ 1532
+  -- And a CRC command that is done costs something.
+  pub something-of-a-CRC-that-is-done : (numberOf (o .answer) ≡ 1) ⊎ (numberOf (o .answer) ≡ 2) → codeOf (getD (o .world .buffers .message) 2 0) ≡ 0x06 → 1 ≤ o .cost
+  -- Never more than 508 above the number of blocks of the larger FRAM, and so for one memory at most 1,532.
+  pub by-the-larger-FRAM : o .cost ≤ max (length (w .frams .bootloader .sums)) (length (w .frams .user .sums)) + 508
+  pub at-most-1532 : o .cost ≤ 1532

@@ -114,7 +114,7 @@ pub fn stepped_out(stepped: Stepped) -> WheelStepped
     WheelStepped {
         unit: record,
         sent: sent_of(answer) as u64,
-        cost: stepped.cost,
         answer: number_of(answer),
+        cost: stepped.cost,
     }
 }

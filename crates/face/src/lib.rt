@@ -41,13 +41,14 @@ pub struct WheelUnit {
     pub locked: u8,
 }
 
-// The unit's record afterwards, how many bytes of the reply buffer are to be sent, what a command cost, and 01's number of the answer.
+// The unit's record afterwards, how many bytes of the reply buffer are to be sent, 01's number of the answer, and what a command cost, which stands
+// behind the answer, so that the answer is where it was before there were costs.
 #[repr(C)]
 pub struct WheelStepped {
     pub unit: WheelUnit,
     pub sent: u64,
-    pub cost: u32,
     pub answer: u8,
+    pub cost: u32,
 }
 
 // How many bytes of the reply buffer are packed, and 01's number of packing.

@@ -12,9 +12,9 @@ use Rattle.fram_commands.specs.Peek.{peekOf, peekRangeOf}
 use Rattle.fram_commands.specs.Poke.{pokeOf}
 use Rattle.fram_commands.specs.Crc.{crcOf}
 use Rattle.fram_commands.specs.ByAddress.{peekByAddress, pokeByAddress, crcByAddress}
-use Rattle.blocks.specs.Cost.{howMany, costOf}
+use Rattle.blocks.specs.Cost.{howMany, rangeCost}
 use Rattle.carrying.specs.declared.Ended.the-variants.{Done, Refused, Unfitted}
-use Rattle.fram_commands.specs.Cost.{rangeCost, crcCost}
+use Rattle.fram_commands.specs.Cost.{fieldCost, crcCost}
 
 abbrev pub fram : List ℕ
 fram = replicate 1024 0
@@ -85,12 +85,12 @@ a-POKE-of-user-FRAM = refl
 pub costs-of-user-FRAM : (crcCost (Done 10) (0x00 ∷ 0x00 ∷ 0x04 ∷ 0x20 ∷ 0xFF ∷ 0x00 ∷ 0x04 ∷ 0x20 ∷ []) ≡ 1)
     × (crcCost (Done 10) (0x01 ∷ 0x00 ∷ 0x04 ∷ 0x20 ∷ 0xFF ∷ 0x00 ∷ 0x04 ∷ 0x20 ∷ []) ≡ 255)
     × (crcCost (Done 10) (0xFF ∷ 0x00 ∷ 0x04 ∷ 0x20 ∷ 0x00 ∷ 0x01 ∷ 0x04 ∷ 0x20 ∷ []) ≡ 2)
-unfolding rangeCost costOf howMany
+unfolding fieldCost rangeCost howMany
 costs-of-user-FRAM = (refl, refl, refl)
 
 -- Of bootloader FRAM: two blocks and three bytes; the same not done.
 pub costs-of-bootloader-FRAM : (crcCost (Done 10) (0x00 ∷ 0x00 ∷ 0x00 ∷ 0x20 ∷ 0x02 ∷ 0x02 ∷ 0x00 ∷ 0x20 ∷ []) ≡ 5)
     × (crcCost Refused (0x00 ∷ 0x00 ∷ 0x00 ∷ 0x20 ∷ 0x02 ∷ 0x02 ∷ 0x00 ∷ 0x20 ∷ []) ≡ 0)
     × (crcCost Unfitted (0x00 ∷ 0x00 ∷ 0x00 ∷ 0x20 ∷ 0x02 ∷ 0x02 ∷ 0x00 ∷ 0x20 ∷ []) ≡ 0)
-unfolding rangeCost costOf howMany
+unfolding fieldCost rangeCost howMany
 costs-of-bootloader-FRAM = (refl, refl, refl)

@@ -4,7 +4,7 @@ ghost use mathlib.Core.Path.{_≡_};
 ghost use mathlib.Core.Bool.{true, false};
 ghost use lib.Dec.{ltb};
 ghost use Rattle.field.specs.Fields.{word32At};
-ghost use Rattle.fram_commands.specs.Windows.{firstOfUser, overBorder};
+ghost use Rattle.fram_commands.specs.Windows.{firstOfUser, firstOf, overBorder, whichOf};
 
 // The address of the first byte of each.
 pub const FIRST_OF_BOOTLOADER: u32 = 0x2000_0000;
@@ -36,4 +36,14 @@ pub fn is_bootloaders(field: &[u8]) -> bool
     ensures { λ r. ⌜ r ≡ ltb (word32At (now (field .entry)) 0) firstOfUser ⌝ }
 {
     word32(field, 0) < FIRST_OF_USER
+}
+
+// The first address of the FRAM that a data field's address names.
+pub fn first_of(field: &[u8]) -> u32
+    ensures { λ r. ⌜ r ≡ firstOf (whichOf (now (field .entry))) ⌝ }
+{
+    if is_bootloaders(field) {
+        return FIRST_OF_BOOTLOADER;
+    }
+    FIRST_OF_USER
 }

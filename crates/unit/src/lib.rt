@@ -1,7 +1,7 @@
 // The unit: a record by value, set-up, and one byte in and one answer out.
 pub use answer::Answer;
 use carrying::Mode;
-use command::cost::cost_of;
+use command::cost::command_cost;
 use judging::Lengths;
 pub use judging::Unit;
 use judging::Verdict;
@@ -151,7 +151,7 @@ fn commanded(
     );
     let ended = carried.ended;
     let after = carried.mode;
-    let cost = cost_of(code, ended, field);
+    let cost = command_cost(code, ended, field);
     let answer = replying::say(ended, count, message, &mut made, reply);
     Stepped {
         unit: Unit {

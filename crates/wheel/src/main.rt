@@ -15,6 +15,7 @@ use words::arguments;
 use words::arguments::Locking;
 use words::report;
 use words::report::count;
+use words::report::larger;
 ghost use Prim.Native.Nat.{_≤_};
 
 // Sets a unit up and feeds it byte by byte to the end of the input.
@@ -32,7 +33,8 @@ fn run(
 ) {
     let mut reply = [0u8; 2068];
     let mut buffer = [0u8; 131072];
-    let mut tally = [0u64; 31];
+    let mut tally = [0u64; 30];
+    let mut largest: u32 = 0;
     let mut fed = begun(
         address,
         limit,
@@ -67,10 +69,18 @@ fn run(
             message,
             &mut reply,
         );
-        count(&mut tally, fed.number, fed.cost);
+        count(&mut tally, fed.number);
+        largest = larger(largest, fed.cost);
     }
     let unit = fed.unit;
-    report::ended(&tally, diagnostics, unit.locked, flow.bytes, flow.fends);
+    report::ended(
+        &tally,
+        diagnostics,
+        unit.locked,
+        largest,
+        flow.bytes,
+        flow.fends,
+    );
 }
 
 // A wheel with fresh memory.

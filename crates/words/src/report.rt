@@ -5,9 +5,6 @@ use libc::STDOUT_FILENO;
 // The diagnostic that set-up writes: it shows whether bootloader FRAM is locked.
 const FRAM_STATUS: usize = 0x06;
 
-// The place of the largest cost in a tally, behind those of the answers.
-const LARGEST_COST: usize = 30;
-
 fn said(words: &[u8]) {
     io::write_all(STDERR_FILENO, words);
 }
@@ -102,7 +99,7 @@ fn numbered(name: &[u8], i: usize, value: u64) {
 }
 
 // How often each answer came, by its number.
-fn answers(tally: &[u64; 31]) {
+fn answers(tally: &[u64; 30]) {
     let mut i = 0;
     while i < 30 {
         numbered(b"answer ", i, tally[i]);
@@ -137,23 +134,31 @@ fn lock(locked: bool) {
 }
 
 // What is said at the end. A reply has two FENDs, its first byte and its last.
-pub fn ended(tally: &[u64; 31], values: &[u32; 31], locked: bool, bytes: u64, fends: u64) {
+pub fn ended(
+    tally: &[u64; 30],
+    values: &[u32; 31],
+    locked: bool,
+    largest: u32,
+    bytes: u64,
+    fends: u64,
+) {
     answers(tally);
     diagnostics(values);
     lock(locked);
-    line(b"largest cost of a CRC: ", tally[LARGEST_COST]);
+    line(b"largest cost of a CRC: ", largest as u64);
     line(b"replies written: ", fends / 2);
     line(b"bytes written: ", bytes);
 }
 
-// One more answer of its number, and what it cost, if that is the largest yet.
-pub fn count(tally: &mut [u64; 31], number: u8, cost: u32) {
+// One more answer of its number.
+pub fn count(tally: &mut [u64; 30], number: u8) {
     let i = number as usize;
     if i < 30 {
         tally[i] = std::num::wrapping_add_u64(tally[i], 1);
     }
-    let spent = cost as u64;
-    if tally[LARGEST_COST] < spent {
-        tally[LARGEST_COST] = spent;
-    }
+}
+
+// The larger of two costs.
+pub fn larger(largest: u32, cost: u32) -> u32 {
+    if largest < cost { cost } else { largest }
 }

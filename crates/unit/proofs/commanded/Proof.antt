@@ -61,8 +61,8 @@ carry-out-requires c κs =
     let limit = within-both-ends (c .before .before .before .before .before .before .before .before .before .before .before .before .before .before .before .before .before .before .before .args .unit .limit) (p .6) in
     (omega (arith, limit .0), omega (arith, limit .1), p .0, p .3, p .1, p .2)
 
-cost-of-requires : tie.Need-cost-of-requires
-cost-of-requires c κs = search needs
+command-cost-requires : tie.Need-command-cost-requires
+command-cost-requires c κs = search needs
 
 slice-aggregate-say : tie.Need-slice-aggregate-say
 slice-aggregate-say c =
@@ -111,7 +111,7 @@ returns c =
     (c .before .before .before .before .before .before .before .before .before .before .before .before .before .before .before .before .before .before .before .before .carry-out .ensures
     ∙ ap (λ (n : ℕ). leaves (commandOf (u .limit) (getD m 2 0 % 32) (heldOf u w) (take n (drop 3 m))) lent (heldOf u w)) size)
     (c .before .before .before .say .ensures)
-    (c .before .before .before .before .before .before .cost-of .ensures ∙ ap (λ (n : ℕ). commandCost (getD m 2 0 % 32) (c .before .before .before .before .before .before .before .before .before .before .before .before .before .before .before .before .before .before .before .before .carry-out .result .ended) (take n (drop 3 m))) size)
+    (c .before .before .before .before .before .before .command-cost .ensures ∙ ap (λ (n : ℕ). commandCost (getD m 2 0 % 32) (c .before .before .before .before .before .before .before .before .before .before .before .before .before .before .before .before .before .before .before .before .carry-out .result .ended) (take n (drop 3 m))) size)
 
 pub commanded-spec : {M : Type 1} → statement M
 commanded-spec =
@@ -127,7 +127,7 @@ commanded-spec =
     part-made-start
     part-made-end
     carry-out-requires
-    cost-of-requires
+    command-cost-requires
     slice-aggregate-say
     say-requires
     same-length

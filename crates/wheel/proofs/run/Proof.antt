@@ -7,11 +7,11 @@ use Rattle.wheel.proofs.run.Statement.{statement}
 use Rattle.wheel.proofs.run.Tie as tie
 
 abbrev Inv-loop : tie.InvT-loop
-Inv-loop address limit locked edac₀ bootloader₀ bootloader-sums₀ fram₀ sums₀ diagnostics₀ message₀ reply₀ buffer₀ tally₀ fed₀ flow₀ turns₀ edac bootloader bootloader-sums fram sums diagnostics message reply buffer tally fed flow turns =
+Inv-loop address limit locked edac₀ bootloader₀ bootloader-sums₀ fram₀ sums₀ diagnostics₀ message₀ reply₀ buffer₀ tally₀ largest₀ fed₀ flow₀ turns₀ edac bootloader bootloader-sums fram sums diagnostics message reply buffer tally largest fed flow turns =
     (0 < turns) × (length bootloader ≡ length bootloader₀) × (length bootloader-sums ≡ length bootloader-sums₀) × (length fram ≡ length fram₀) × (length sums ≡ length sums₀)
 
 abbrev μ-loop : tie.MeasureT-loop
-μ-loop address limit locked edac₀ bootloader₀ bootloader-sums₀ fram₀ sums₀ diagnostics₀ message₀ reply₀ buffer₀ tally₀ fed₀ flow₀ turns₀ edac bootloader bootloader-sums fram sums diagnostics message reply buffer tally fed flow turns =
+μ-loop address limit locked edac₀ bootloader₀ bootloader-sums₀ fram₀ sums₀ diagnostics₀ message₀ reply₀ buffer₀ tally₀ largest₀ fed₀ flow₀ turns₀ edac bootloader bootloader-sums fram sums diagnostics message reply buffer tally largest fed flow turns =
     turns
 
 begun-requires : tie.Need-begun-requires Inv-loop μ-loop
@@ -38,14 +38,17 @@ feed-requires c κs = tt
 count-requires : tie.Need-count-requires Inv-loop μ-loop
 count-requires c κs = tt
 
+larger-requires : tie.Need-larger-requires Inv-loop μ-loop
+larger-requires c κs = tt
+
 loop-less : tie.Need-loop-less Inv-loop μ-loop
-loop-less c = c .before .before .before .before .before .before .before .before .before .before .before .before .before .before .before .before .before .before .before .before .before .left .ensures (c .before .before .before .before .before .before .before .before .before .before .before .before .before .before .before .before .before .before .before .before .before .before .before .before .before .loop .inv .0)
+loop-less c = c .before .before .before .before .before .before .before .before .before .before .before .before .before .before .before .before .before .before .before .before .before .before .left .ensures (c .before .before .before .before .before .before .before .before .before .before .before .before .before .before .before .before .before .before .before .before .before .before .before .before .before .before .loop .inv .0)
 
 loop-again : tie.Need-loop-again Inv-loop μ-loop
 loop-again c =
-    let more = c .before .before .before .before .before .before .before .before .before .before .before .before .before .before .before .before .before .before .before .before .if1 .left in
-    let kept = c .before .before .before .before .before .before .before .before .before .before .feed .kept in
-    let inv = c .before .before .before .before .before .before .before .before .before .before .before .before .before .before .before .before .before .before .before .before .before .before .before .before .before .loop .inv in
+    let more = c .before .before .before .before .before .before .before .before .before .before .before .before .before .before .before .before .before .before .before .before .before .if1 .left in
+    let kept = c .before .before .before .before .before .before .before .before .before .before .before .feed .kept in
+    let inv = c .before .before .before .before .before .before .before .before .before .before .before .before .before .before .before .before .before .before .before .before .before .before .before .before .before .before .loop .inv in
     (omega (arith, more), kept .1 .1 .1 .0 ∙ inv .1, kept .1 .1 .1 .1 .0 ∙ inv .2, kept .1 .1 .1 .1 .1 .0 ∙ inv .3, kept .1 .1 .1 .1 .1 .1 .0 ∙ inv .4)
 
 ended-requires : tie.Need-ended-requires Inv-loop μ-loop
@@ -80,6 +83,7 @@ run-spec =
     byte-requires
     feed-requires
     count-requires
+    larger-requires
     loop-less
     loop-again
     ended-requires

@@ -8,8 +8,8 @@ use Rattle.fram_commands.proofs.cost.crc_cost.Tie as tie
 enum-told : tie.Need-enum-told
 enum-told c = search needs
 
-cost-of-field-requires : tie.Need-cost-of-field-requires
-cost-of-field-requires c κs = search needs
+field-cost-requires : tie.Need-field-cost-requires
+field-cost-requires c κs = search needs
 
 enum-told-2 : tie.Need-enum-told-2
 enum-told-2 c = search needs
@@ -20,7 +20,7 @@ enum-told-3 c = search needs
 returns : tie.Need-returns
 returns c =
     let a = c .before .before .before .before .args in
-    c .cost-of-field .ensures ∙ sym (ap (λ came. crcCost came (a .field .now)) (c .before .enum-told .given .1))
+    c .field-cost .ensures ∙ sym (ap (λ came. crcCost came (a .field .now)) (c .before .enum-told .given .1))
 
 returns-2 : tie.Need-returns-2
 returns-2 c = search needs
@@ -31,4 +31,4 @@ returns-3 c = search needs
 pub crc-cost-spec : {M : Type 1} → statement M
 crc-cost-spec =
     tie.close
-    (tie.spec enum-told cost-of-field-requires enum-told-2 enum-told-3 returns returns-2 returns-3)
+    (tie.spec enum-told field-cost-requires enum-told-2 enum-told-3 returns returns-2 returns-3)

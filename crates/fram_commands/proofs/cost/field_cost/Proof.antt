@@ -1,16 +1,11 @@
--- `fram_commands::cost::cost_of_field` meets its contract, and what it gives has 32 bits. Assumes nothing.
-use mathlib.Core.Path.{_∙_, ap}
+-- `fram_commands::cost::field_cost` meets its contract, and what it gives has 32 bits. Assumes nothing.
 use Prim.Native.Nat.{_+_}
-use mathlib.Core.Bool.{cond}
 use native.Mathlib.Omega.{arith}
-use lib.Dec.{ltb}
-use Rattle.carrying.specs.Held.{ofBootloader, ofUser}
 use Rattle.blocks.proofs.Counting.{no-range-costs-more-than-by-its-size}
-use Rattle.fram_commands.specs.Windows.{firstOf, firstOfUser}
 use Rattle.fram_commands.proofs.Costs.{the-cost-by-addresses}
 use borrow.Author.Needs.{needs}
-use Rattle.fram_commands.proofs.cost.cost_of_field.Statement.{statement}
-use Rattle.fram_commands.proofs.cost.cost_of_field.Tie as tie
+use Rattle.fram_commands.proofs.cost.field_cost.Statement.{statement}
+use Rattle.fram_commands.proofs.cost.field_cost.Tie as tie
 
 word32-requires : tie.Need-word32-requires
 word32-requires c κs = search needs
@@ -44,11 +39,11 @@ cast-result c =
 returns : tie.Need-returns
 returns c =
     the-cost-by-addresses _ _ _ _ _ _ _ (c .before .before .before .before .before .word32 .ensures) (c .before .before .before .before .word322 .ensures)
-    (c .before .before .before .first-of .ensures ∙ ap (λ n. firstOf (cond (ltb n firstOfUser) ofBootloader ofUser)) (c .before .before .before .before .before .word32 .ensures))
+    (c .before .before .before .first-of .ensures)
     (c .before .before .behind .ensures) (c .before .behind2 .ensures) (c .range-cost .ensures)
 
-pub cost-of-field-spec : {M : Type 1} → statement M
-cost-of-field-spec =
+pub field-cost-spec : {M : Type 1} → statement M
+field-cost-spec =
     tie.close
     (tie.spec
     word32-requires

@@ -1,11 +1,11 @@
--- `command::cost::cost_of` meets its contract, by the code. Assumes nothing.
+-- `command::cost::command_cost` meets its contract, by the code. Assumes nothing.
 use mathlib.Core.Path.{sym, ap, _∙_}
 use mathlib.Core.Bool.{cond}
 use borrow.Author.Tests.{eq-eqb, ne-eqb}
 use Rattle.fram_commands.specs.Cost.{crcCost}
 use borrow.Author.Needs.{needs}
-use Rattle.command.proofs.cost.cost_of.Statement.{statement}
-use Rattle.command.proofs.cost.cost_of.Tie as tie
+use Rattle.command.proofs.cost.command_cost.Statement.{statement}
+use Rattle.command.proofs.cost.command_cost.Tie as tie
 
 crc-cost-requires : tie.Need-crc-cost-requires
 crc-cost-requires c κs = search needs
@@ -20,6 +20,6 @@ returns-2 c =
     let a = c .before .before .args in
     sym (ap (λ t. cond t (crcCost (a .ended) (a .field .now)) 0) (ne-eqb (a .code) 0x06 (c .if1 .left)))
 
-pub cost-of-spec : {M : Type 1} → statement M
-cost-of-spec =
+pub command-cost-spec : {M : Type 1} → statement M
+command-cost-spec =
     tie.close (tie.spec crc-cost-requires returns returns-2)
