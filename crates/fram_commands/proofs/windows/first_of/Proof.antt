@@ -1,6 +1,5 @@
 -- `fram_commands::windows::first_of` meets its contract, by its one test. Assumes nothing.
 use mathlib.Core.Path.{sym, ap, _∙_}
-use Rattle.carrying.specs.Held.{ofBootloader, ofUser}
 use Rattle.fram_commands.specs.Windows.{firstOf}
 use Rattle.fram_commands.proofs.Choosing.{names-bootloader, names-user}
 use borrow.Author.Needs.{needs}
