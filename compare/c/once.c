@@ -1,9 +1,9 @@
 /* One call of the C face, for an instruction count: `once crc LENGTH` over zeros, `once join LENGTH`, `once set_up LENGTH` with
    so much user FRAM and the least bootloader FRAM, `once both LENGTH` with so much of each, `once last CODE`, the FEND after the
-   dearest message known of that command, `once ask 8` and `once write 8`, the list of that message judged and stored; `once range
-   FIRST LAST COST`, the FEND after a CRC command over those bytes of user FRAM of 262,144, counted from its first, which costs
-   that; and LENGTH calls: `once step LENGTH`, of ordinary bytes in a run. It fails where an answer or a cost is not the one that
-   is due. */
+   dearest message known of that command, `once ask 8` and `once write 8`, the list of that message judged and stored; `once user
+   FIRST LAST COST` and `once boot FIRST LAST COST`, the FEND after a CRC command over those bytes of user or bootloader FRAM, each
+   of 262,144, counted from its first, which costs that; and LENGTH calls: `once step LENGTH`, of ordinary bytes in a run. It fails
+   where an answer or a cost is not the one that is due. */
 #include "wheel.h"
 
 #include <stdio.h>
@@ -50,9 +50,9 @@ static uint16_t crc(const uint8_t *bytes, size_t length) {
     return sum;
 }
 
-/* The address of a place in user FRAM, as a command has it. */
-static void place(uint8_t *bytes, const char *word) {
-    const unsigned long address = WHEEL_USER_FRAM_FIRST + strtoul(word, NULL, 10);
+/* The address of a place in an FRAM that begins at `first`, as a command has it. */
+static void place(uint8_t *bytes, unsigned long first, const char *word) {
+    const unsigned long address = first + strtoul(word, NULL, 10);
     for (int i = 0; i < 4; i++) {
         bytes[i] = (uint8_t)(address >> 8 * i);
     }
@@ -60,7 +60,7 @@ static void place(uint8_t *bytes, const char *word) {
 
 int main(int count, char **words) {
     static uint8_t bytes[262144];
-    const int range = count == 5 && strcmp(words[1], "range") == 0;
+    const int range = count == 5 && (strcmp(words[1], "user") == 0 || strcmp(words[1], "boot") == 0);
     if (count != 3 && !range) {
         return 1;
     }
@@ -93,10 +93,14 @@ int main(int count, char **words) {
             uint8_t *message = wheel.message;
             const size_t end = 3 + dear(number, message + 3);
             if (range) { /* with as many bytes 0xC0 in the reply as the range allows: each is packed as two */
-                place(message + 3, words[2]);
-                place(message + 7, words[3]);
+                const unsigned long first = words[1][0] == 'u' ? WHEEL_USER_FRAM_FIRST : WHEEL_BOOTLOADER_FRAM_FIRST;
+                place(message + 3, first, words[2]);
+                place(message + 7, first, words[3]);
                 message[1] = 0xC0;
                 memset(user_sums, 0xC0, sizeof user_sums);
+                memset(bootloader_sums, 0xC0, sizeof bootloader_sums);
+                wheel.bootloader.length = WHEEL_FRAM_MOST;
+                wheel.now.unit.bootloader_len = WHEEL_FRAM_MOST;
             }
             message[0] = 0x41;
             message[2] = (uint8_t)(0x80 + number);

@@ -60,12 +60,12 @@ answered-at : (u : Unit) (destination source control : ℕ) (field : List ℕ) (
 unfolding answered
 answered-at u destination source control field o w = refl
 
--- nor 0
+-- the number of a byte that is only taken is neither 1 nor 2
 not-taken : _⊎_ (_≡_ {A = ℕ} 0 1) (_≡_ {A = ℕ} 0 2) → ⊥
 not-taken (inl one) = absurd (omega arith)
 not-taken (inr two) = absurd (omega arith)
 
--- neither 1 nor 2
+-- and neither is one from 3 on
 neither : (n : ℕ) → 3 ≤ n → (n ≡ 1) ⊎ (n ≡ 2) → ⊥
 neither n high (inl one) = absurd (omega arith)
 neither n high (inr two) = absurd (omega arith)
