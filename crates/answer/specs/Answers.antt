@@ -1,7 +1,7 @@
--- 01, "One byte in, one answer out", and 29 by 02, T-06: the number of each answer, and how many bytes it sends. Assumes nothing.
+-- 01, "One byte in, one answer out", 27 and 29 by 02, T-01 and T-06: the number of each answer, and how many bytes it sends. Assumes nothing.
 use Prim.Native.Nat.{ℕ}
 use Rattle.answer.specs.declared.Answer.{Answer}
-use Rattle.answer.specs.declared.Answer.the-variants.{Taken, Acked, Done, Nacked, Refused, Framing, Runt, Oversize, BadCrc, Elsewhere, Unfitted, BadAddress, BadEdac, BadFram, BadSums, BadDiagnostics, BadBuffers, BadCount, BadLimit}
+use Rattle.answer.specs.declared.Answer.the-variants.{Taken, Acked, Done, Nacked, Refused, Framing, Runt, Oversize, BadCrc, Elsewhere, Unfitted, BadStrap, BadEdac, BadFram, BadSums, BadDiagnostics, BadBuffers, BadCount, BadPort, BadLimit}
 
 abbrev pub numberOf : Answer → ℕ
 numberOf Taken = 0
@@ -15,13 +15,14 @@ numberOf Oversize = 7
 numberOf BadCrc = 8
 numberOf Elsewhere = 9
 numberOf Unfitted = 10
-numberOf BadAddress = 20
+numberOf BadStrap = 20
 numberOf BadEdac = 21
 numberOf BadFram = 22
 numberOf BadSums = 23
 numberOf BadDiagnostics = 24
 numberOf BadBuffers = 25
 numberOf BadCount = 26
+numberOf BadPort = 27
 numberOf BadLimit = 29
 
 abbrev pub sentOf : Answer → ℕ
@@ -36,11 +37,12 @@ sentOf Oversize = 0
 sentOf BadCrc = 0
 sentOf Elsewhere = 0
 sentOf Unfitted = 0
-sentOf BadAddress = 0
+sentOf BadStrap = 0
 sentOf BadEdac = 0
 sentOf BadFram = 0
 sentOf BadSums = 0
 sentOf BadDiagnostics = 0
 sentOf BadBuffers = 0
 sentOf BadCount = 0
+sentOf BadPort = 0
 sentOf BadLimit = 0

@@ -2,7 +2,7 @@
 ghost use mathlib.Core.Path.{_≡_};
 ghost use Rattle.answer.specs.Answers.{numberOf, sentOf};
 
-// What a call answers. A reply that is sent has so many bytes, the written first part of the reply buffer.
+// What a call answers. A reply that is sent has so many bytes, the written first part of a reply buffer.
 pub enum Answer {
     // A byte taken, or an empty run closed.
     Taken,
@@ -21,15 +21,16 @@ pub enum Answer {
     Elsewhere,
     // An access to memory not fitted.
     Unfitted,
-    // A call refused: the unit's address, the length of EDAC memory, FRAM, sums, diagnostics, message or reply buffer, the
-    // receiver's count, and the limit.
-    BadAddress,
+    // A call refused: the unit's strap, the length of EDAC memory, FRAM, sums, diagnostics, a message or reply buffer, the
+    // count of a receiver, the port, and the limit.
+    BadStrap,
     BadEdac,
     BadFram,
     BadSums,
     BadDiagnostics,
     BadBuffers,
     BadCount,
+    BadPort,
     BadLimit,
 }
 
@@ -49,18 +50,19 @@ pub fn number_of(answer: Answer) -> u8
         Answer::BadCrc => 8,
         Answer::Elsewhere => 9,
         Answer::Unfitted => 10,
-        Answer::BadAddress => 20,
+        Answer::BadStrap => 20,
         Answer::BadEdac => 21,
         Answer::BadFram => 22,
         Answer::BadSums => 23,
         Answer::BadDiagnostics => 24,
         Answer::BadBuffers => 25,
         Answer::BadCount => 26,
+        Answer::BadPort => 27,
         Answer::BadLimit => 29,
     }
 }
 
-// How many bytes of the reply buffer are sent.
+// How many bytes of a reply buffer are sent.
 pub fn sent_of(answer: Answer) -> usize
     ensures { λ r. ⌜ r ≡ sentOf answer ⌝ }
 {
@@ -76,13 +78,14 @@ pub fn sent_of(answer: Answer) -> usize
         Answer::BadCrc => 0,
         Answer::Elsewhere => 0,
         Answer::Unfitted => 0,
-        Answer::BadAddress => 0,
+        Answer::BadStrap => 0,
         Answer::BadEdac => 0,
         Answer::BadFram => 0,
         Answer::BadSums => 0,
         Answer::BadDiagnostics => 0,
         Answer::BadBuffers => 0,
         Answer::BadCount => 0,
+        Answer::BadPort => 0,
         Answer::BadLimit => 0,
     }
 }

@@ -8,23 +8,13 @@ use lib.Dec.{eqb}
 use Rattle.memory.specs.Edac.{edacSize}
 use Rattle.blocks.specs.Fram.{blockStart}
 use Rattle.judging.specs.declared.Lengths.{Lengths}
-use Rattle.answer.specs.declared.Answer.the-variants.{BadAddress, BadEdac, BadFram, BadSums, BadDiagnostics, BadBuffers}
+use Rattle.answer.specs.declared.Answer.the-variants.{BadStrap, BadEdac, BadFram, BadSums, BadDiagnostics, BadBuffers}
 use Rattle.judging.specs.declared.fitting.Fit.{Fit}
 use Rattle.judging.specs.declared.fitting.Fit.the-variants.{Unfit}
-use Rattle.judging.specs.Fitting.{forbidden, framFits, sumsFit, framAsSetUp, lengthsFit}
+use Rattle.judging.specs.Fitting.{lastStrap, framFits, sumsFit, framAsSetUp, tooShort, lengthsFit}
 use Rattle.memory.specs.Counts.{channels}
-use Rattle.line.specs.Packing.{messageSize, replySize}
 
 -- ---- the single tests
-
-pub address-0 : (address : ℕ) → address ≡ 0x00 → true ≡ forbidden address
-address-0 address e = simp (eq-eqb address 0x00 e)
-
-pub address-FEND : (address : ℕ) → (address ≡ 0x00 → ⊥) → address ≡ 0xC0 → true ≡ forbidden address
-address-FEND address other e = simp (ne-eqb address 0x00 other, eq-eqb address 0xC0 e)
-
-pub address-FESC : (address : ℕ) → (address ≡ 0x00 → ⊥) → (address ≡ 0xC0 → ⊥) → eqb address 0xDB ≡ forbidden address
-address-FESC address other another = simp (ne-eqb address 0x00 other, ne-eqb address 0xC0 another)
 
 pub fram-too-short : (size : ℕ) → size < 256 → false ≡ framFits size
 fram-too-short size h = simp (lt-leb 256 size h)
@@ -64,60 +54,41 @@ not-of-the-first a b e = rw e
 
 -- ---- 20 to 25, lowest number first
 
-module _ (address : ℕ) (fits : Bool) (l : Lengths) (next : Fit) where
-  pub refused-20 : forbidden address ≡ true → Unfit BadAddress ≡ lengthsFit address fits l next
+module _ (strap : ℕ) (fits : Bool) (l : Lengths) (next : Fit) where
+  pub refused-20 : lastStrap < strap → Unfit BadStrap ≡ lengthsFit strap fits l next
   unfolding lengthsFit
-  refused-20 a = simp a
+  refused-20 a = simp (lt-ltb lastStrap strap a)
 
-  module _ (a : forbidden address ≡ false) where
-    pub refused-21 : (l .edac ≡ edacSize → ⊥) → Unfit BadEdac ≡ lengthsFit address fits l next
+  module _ (a : strap ≤ lastStrap) where
+    pub refused-21 : (l .edac ≡ edacSize → ⊥) → Unfit BadEdac ≡ lengthsFit strap fits l next
     unfolding lengthsFit
-    refused-21 e = simp (a, ne-eqb (l .edac) edacSize e)
+    refused-21 e = simp (le-ltb lastStrap strap a, ne-eqb (l .edac) edacSize e)
 
     module _ (e : l .edac ≡ edacSize) where
-      pub refused-22 : fits ≡ false → Unfit BadFram ≡ lengthsFit address fits l next
+      pub refused-22 : fits ≡ false → Unfit BadFram ≡ lengthsFit strap fits l next
       unfolding lengthsFit
-      refused-22 f = simp (a, eq-eqb (l .edac) edacSize e, f)
+      refused-22 f = simp (le-ltb lastStrap strap a, eq-eqb (l .edac) edacSize e, f)
 
       module _ (f : fits ≡ true) where
-        pub refused-23 : sumsFit l ≡ false → Unfit BadSums ≡ lengthsFit address fits l next
+        pub refused-23 : sumsFit l ≡ false → Unfit BadSums ≡ lengthsFit strap fits l next
         unfolding lengthsFit
-        refused-23 s = simp (a, eq-eqb (l .edac) edacSize e, f, s)
+        refused-23 s = simp (le-ltb lastStrap strap a, eq-eqb (l .edac) edacSize e, f, s)
 
         module _ (s : sumsFit l ≡ true) where
-          pub refused-24 : (l .diagnostics ≡ channels → ⊥) → Unfit BadDiagnostics ≡ lengthsFit address fits l next
+          pub refused-24 : (l .diagnostics ≡ channels → ⊥) → Unfit BadDiagnostics ≡ lengthsFit strap fits l next
           unfolding lengthsFit
-          refused-24 d = simp (a, eq-eqb (l .edac) edacSize e, f, s, ne-eqb (l .diagnostics) channels d)
+          refused-24 d = simp (le-ltb lastStrap strap a, eq-eqb (l .edac) edacSize e, f, s, ne-eqb (l .diagnostics) channels d)
 
           module _ (d : l .diagnostics ≡ channels) where
-            pub refused-25-message : l .message < messageSize → Unfit BadBuffers ≡ lengthsFit address fits l next
+            pub refused-25-on-0 : tooShort (l .message0) (l .reply0) ≡ true → Unfit BadBuffers ≡ lengthsFit strap fits l next
             unfolding lengthsFit
-            refused-25-message m =
-                simp (a, eq-eqb (l .edac) edacSize e, f, s, eq-eqb (l .diagnostics) channels d, lt-ltb (l .message) messageSize m)
+            refused-25-on-0 m = simp (le-ltb lastStrap strap a, eq-eqb (l .edac) edacSize e, f, s, eq-eqb (l .diagnostics) channels d, m)
 
-            module _ (m : messageSize ≤ l .message) where
-              pub refused-25-reply : l .reply < replySize → Unfit BadBuffers ≡ lengthsFit address fits l next
+            module _ (m : tooShort (l .message0) (l .reply0) ≡ false) where
+              pub refused-25-on-1 : tooShort (l .message1) (l .reply1) ≡ true → Unfit BadBuffers ≡ lengthsFit strap fits l next
               unfolding lengthsFit
-              refused-25-reply r =
-                  simp (
-                    a,
-                    eq-eqb (l .edac) edacSize e,
-                    f,
-                    s,
-                    eq-eqb (l .diagnostics) channels d,
-                    le-ltb (l .message) messageSize m,
-                    lt-ltb (l .reply) replySize r,
-                  )
+              refused-25-on-1 r = simp (le-ltb lastStrap strap a, eq-eqb (l .edac) edacSize e, f, s, eq-eqb (l .diagnostics) channels d, m, r)
 
-              pub not-refused : replySize ≤ l .reply → next ≡ lengthsFit address fits l next
+              pub not-refused : tooShort (l .message1) (l .reply1) ≡ false → next ≡ lengthsFit strap fits l next
               unfolding lengthsFit
-              not-refused r =
-                  simp (
-                    a,
-                    eq-eqb (l .edac) edacSize e,
-                    f,
-                    s,
-                    eq-eqb (l .diagnostics) channels d,
-                    le-ltb (l .message) messageSize m,
-                    le-ltb (l .reply) replySize r,
-                  )
+              not-refused r = simp (le-ltb lastStrap strap a, eq-eqb (l .edac) edacSize e, f, s, eq-eqb (l .diagnostics) channels d, m, r)

@@ -4,56 +4,61 @@ use mathlib.Core.Bool.{Bool, true, false, cond, _&&_, _||_, false≢true}
 use mathlib.Core.List.{List}
 use Prim.Native.Nat.{ℕ, _≤_}
 use native.Mathlib.Omega.{arith}
-use borrow.Author.Tests.{eqb-true, ltb-false}
+use borrow.Author.Tests.{eqb-true, ltb-false, leb-true}
 use lib.Dec.{eqb, leb, ltb}
 use lib.ListN.{getD}
 use Rattle.line.specs.declared.receiver.Heard.{Heard}
 use Rattle.line.specs.declared.receiver.Heard.the-variants as heard
 use Rattle.line.specs.Packing.{shortestMessage, messageSize, replySize}
-use Rattle.line.specs.Receiver.{receiveOf}
+use Rattle.ports.specs.declared.Side.{Side}
+use Rattle.ports.specs.declared.Side.the-variants.{Zero, One}
+use Rattle.ports.specs.declared.Answered.{Answered}
+use Rattle.ports.specs.declared.Answered.the-variants.{On, Nowhere}
+use Rattle.ports.specs.Sides.{sideOf, Both, both, ofSide}
+use Rattle.ports.specs.Ports.{countOf, answeredOn, portOf, hearOf}
 use Rattle.memory.specs.Counts.{channels}
 use Rattle.memory.specs.Edac.{edacSize}
 use Rattle.blocks.specs.Fram.{blockStart}
 use Rattle.carrying.specs.Ending.{isLimit}
 use Rattle.carrying.proofs.Room.{either-way}
 use Rattle.answer.specs.declared.Answer.{Answer}
-use Rattle.answer.specs.declared.Answer.the-variants.{BadAddress, BadEdac, BadFram, BadSums, BadDiagnostics, BadBuffers, BadCount, BadLimit}
+use Rattle.answer.specs.declared.Answer.the-variants.{BadStrap, BadEdac, BadFram, BadSums, BadDiagnostics, BadBuffers, BadCount, BadPort, BadLimit}
 use Rattle.judging.specs.declared.Unit.{Unit}
 use Rattle.judging.specs.declared.Lengths.{Lengths}
 use Rattle.judging.specs.declared.Verdict.{Verdict}
 use Rattle.judging.specs.declared.Verdict.the-variants.{Quiet, Dropped, Command}
 use Rattle.judging.specs.declared.fitting.Fit.{Fit}
 use Rattle.judging.specs.declared.fitting.Fit.the-variants.{Fits, Unfit}
-use Rattle.judging.specs.Fitting.{forbidden, framFits, sumsFit, framsAsSetUp, largestCount, limitFit, countFit, lengthsFit, setUpFit, stepFit}
-use Rattle.judging.specs.Judging.{largestMessage, soundOf, runOf, verdictOf, receivedOf, unless, judgeOf}
+use Rattle.judging.specs.Fitting.{lastStrap, framFits, sumsFit, framsAsSetUp, largestCount, tooShort, limitFit, countFit, portFit, recordFit, lengthsFit, setUpFit, stepFit}
+use Rattle.judging.specs.Judging.{largestMessage, soundOf, commandOn, runOf, verdictOf, receivedOf, amongBoth, unless, judgeOf}
 
 -- the tests that a call passed, as equations
-pub record Passed (address : ℕ) (fits : Bool) (l : Lengths) (next : Fit) : Type 0 where
-  pub address-allowed : forbidden address ≡ false
+pub record Passed (strap : ℕ) (fits : Bool) (l : Lengths) (next : Fit) : Type 0 where
+  pub strap-allowed : ltb lastStrap strap ≡ false
   pub edac-tested : eqb (l .edac) edacSize ≡ true
   pub fram-tested : fits ≡ true
   pub sums-tested : sumsFit l ≡ true
   pub diagnostics-tested : eqb (l .diagnostics) channels ≡ true
-  pub message-tested : ltb (l .message) messageSize ≡ false
-  pub reply-tested : ltb (l .reply) replySize ≡ false
+  pub port-0-tested : tooShort (l .message0) (l .reply0) ≡ false
+  pub port-1-tested : tooShort (l .message1) (l .reply1) ≡ false
   pub next-tested : next ≡ Fits
 
 unfit : (answer : Answer) → {X : Type 0} → Unfit answer ≡ Fits → X
 unfit answer e = let z : _≡_ {A = ℕ} 0 1 = cc in absurd (omega arith)
 
-pub all-passed : (address : ℕ) (fits : Bool) (l : Lengths) (next : Fit) → lengthsFit address fits l next ≡ Fits → Passed address fits l next
+pub all-passed : (strap : ℕ) (fits : Bool) (l : Lengths) (next : Fit) → lengthsFit strap fits l next ≡ Fits → Passed strap fits l next
 unfolding lengthsFit
-all-passed address fits l next =
-    tested (forbidden address) (eqb (l .edac) edacSize) fits (sumsFit l) (eqb (l .diagnostics) channels)
-    (ltb (l .message) messageSize) (ltb (l .reply) replySize) refl refl refl refl refl refl refl
+all-passed strap fits l next =
+    tested (ltb lastStrap strap) (eqb (l .edac) edacSize) fits (sumsFit l) (eqb (l .diagnostics) channels)
+    (tooShort (l .message0) (l .reply0)) (tooShort (l .message1) (l .reply1)) refl refl refl refl refl refl refl
   where
-    tested : (a e f s d m r : Bool) → forbidden address ≡ a → eqb (l .edac) edacSize ≡ e → fits ≡ f → sumsFit l ≡ s
-        → eqb (l .diagnostics) channels ≡ d → ltb (l .message) messageSize ≡ m → ltb (l .reply) replySize ≡ r
-        → cond a (Unfit BadAddress)
+    tested : (a e f s d m r : Bool) → ltb lastStrap strap ≡ a → eqb (l .edac) edacSize ≡ e → fits ≡ f → sumsFit l ≡ s
+        → eqb (l .diagnostics) channels ≡ d → tooShort (l .message0) (l .reply0) ≡ m → tooShort (l .message1) (l .reply1) ≡ r
+        → cond a (Unfit BadStrap)
         (cond e (cond f (cond s (cond d (cond (m || r) (Unfit BadBuffers) next) (Unfit BadDiagnostics)) (Unfit BadSums)) (Unfit BadFram)) (Unfit BadEdac))
         ≡ Fits
-        → Passed address fits l next
-    tested true e f s d m r pa pe pf ps pd pm pr h = unfit BadAddress h
+        → Passed strap fits l next
+    tested true e f s d m r pa pe pf ps pd pm pr h = unfit BadStrap h
     tested false false f s d m r pa pe pf ps pd pm pr h = unfit BadEdac h
     tested false true false s d m r pa pe pf ps pd pm pr h = unfit BadFram h
     tested false true true false d m r pa pe pf ps pd pm pr h = unfit BadSums h
@@ -62,27 +67,27 @@ all-passed address fits l next =
     tested false true true true true false true pa pe pf ps pd pm pr h = unfit BadBuffers h
     tested false true true true true false false pa pe pf ps pd pm pr h =
         record {
-          address-allowed = pa;
+          strap-allowed = pa;
           edac-tested = pe;
           fram-tested = pf;
           sums-tested = ps;
           diagnostics-tested = pd;
-          message-tested = pm;
-          reply-tested = pr;
+          port-0-tested = pm;
+          port-1-tested = pr;
           next-tested = h;
         }
 
 -- 20 to 25 do not look at what comes after them
-pub refused-all-the-same : (address : ℕ) (fits : Bool) (l : Lengths) (next : Fit) (answer : Answer) → lengthsFit address fits l Fits ≡ Unfit answer
-    → Unfit answer ≡ lengthsFit address fits l next
+pub refused-all-the-same : (strap : ℕ) (fits : Bool) (l : Lengths) (next : Fit) (answer : Answer) → lengthsFit strap fits l Fits ≡ Unfit answer
+    → Unfit answer ≡ lengthsFit strap fits l next
 unfolding lengthsFit
-refused-all-the-same address fits l next answer =
-    tested (forbidden address) (eqb (l .edac) edacSize) fits (sumsFit l) (eqb (l .diagnostics) channels)
-    (ltb (l .message) messageSize || ltb (l .reply) replySize)
+refused-all-the-same strap fits l next answer =
+    tested (ltb lastStrap strap) (eqb (l .edac) edacSize) fits (sumsFit l) (eqb (l .diagnostics) channels)
+    (tooShort (l .message0) (l .reply0) || tooShort (l .message1) (l .reply1))
   where
     judged : Bool → Bool → Bool → Bool → Bool → Bool → Fit → Fit
     judged a e f s d b x =
-        cond a (Unfit BadAddress) (cond e (cond f (cond s (cond d (cond b (Unfit BadBuffers) x) (Unfit BadDiagnostics)) (Unfit BadSums)) (Unfit BadFram)) (Unfit BadEdac))
+        cond a (Unfit BadStrap) (cond e (cond f (cond s (cond d (cond b (Unfit BadBuffers) x) (Unfit BadDiagnostics)) (Unfit BadSums)) (Unfit BadFram)) (Unfit BadEdac))
 
     tested : (a e f s d b : Bool) → judged a e f s d b Fits ≡ Unfit answer → Unfit answer ≡ judged a e f s d b next
     tested true e f s d b h = sym h
@@ -93,11 +98,11 @@ refused-all-the-same address fits l next answer =
     tested false true true true true true h = sym h
     tested false true true true true false h = unfit answer (sym h)
 
-pub and-then : (address : ℕ) (fits : Bool) (l : Lengths) (next : Fit) → lengthsFit address fits l Fits ≡ Fits → next ≡ lengthsFit address fits l next
+pub and-then : (strap : ℕ) (fits : Bool) (l : Lengths) (next : Fit) → lengthsFit strap fits l Fits ≡ Fits → next ≡ lengthsFit strap fits l next
 unfolding lengthsFit
-and-then address fits l next h =
-    let p = all-passed address fits l Fits h in
-    simp (p .address-allowed, p .edac-tested, p .fram-tested, p .sums-tested, p .diagnostics-tested, p .message-tested, p .reply-tested)
+and-then strap fits l next h =
+    let p = all-passed strap fits l Fits h in
+    simp (p .strap-allowed, p .edac-tested, p .fram-tested, p .sums-tested, p .diagnostics-tested, p .port-0-tested, p .port-1-tested)
 
 -- What is lent has the lengths that a call needs: what is left to say of it when no refusal is due.
 pub record Fitted (l : Lengths) : Type 0 where
@@ -105,25 +110,49 @@ pub record Fitted (l : Lengths) : Type 0 where
   pub bootloader-sums-fit : l .bootloader ≡ blockStart (l .«bootloader_sums»)
   pub sums-fit : l .fram ≡ blockStart (l .sums)
   pub diagnostics-fit : l .diagnostics ≡ channels
-  pub message-fits : messageSize ≤ l .message
-  pub reply-fits : replySize ≤ l .reply
+  pub message-fits : (side : Side) → messageSize ≤ ofSide side (both (l .message0) (l .message1))
+  pub reply-fits : (side : Side) → replySize ≤ ofSide side (both (l .reply0) (l .reply1))
 
 -- what both of two tests say
-pub both : (a b : Bool) → (a && b) ≡ true → (a ≡ true) × (b ≡ true)
-both true b h = (refl, h)
-both false b h = let z : false ≡ true = h in absurd (false≢true z)
+pub both-hold : (a b : Bool) → (a && b) ≡ true → (a ≡ true) × (b ≡ true)
+both-hold true b h = (refl, h)
+both-hold false b h = let z : false ≡ true = h in absurd (false≢true z)
 
-fitted : (address : ℕ) (fits : Bool) (l : Lengths) (next : Fit) → Passed address fits l next → Fitted l
-fitted address fits l next p =
-    let sums = both (eqb (blockStart (l .«bootloader_sums»)) (l .bootloader)) (eqb (blockStart (l .sums)) (l .fram)) (p .sums-tested) in
+-- and neither
+neither-holds : (a b : Bool) → (a || b) ≡ false → (a ≡ false) × (b ≡ false)
+neither-holds true b h = let z : true ≡ false = h in absurd (false≢true (sym z))
+neither-holds false b h = (refl, h)
+
+long-enough : (message reply : ℕ) → tooShort message reply ≡ false → (messageSize ≤ message) × (replySize ≤ reply)
+long-enough message reply h =
+    let each = neither-holds (ltb message messageSize) (ltb reply replySize) h in
+    (ltb-false message messageSize (each .0), ltb-false reply replySize (each .1))
+
+fitted : (strap : ℕ) (fits : Bool) (l : Lengths) (next : Fit) → Passed strap fits l next → Fitted l
+fitted strap fits l next p =
+    let sums = both-hold (eqb (blockStart (l .«bootloader_sums»)) (l .bootloader)) (eqb (blockStart (l .sums)) (l .fram)) (p .sums-tested) in
     record {
       edac-fits = eqb-true (l .edac) edacSize (p .edac-tested);
       bootloader-sums-fit = sym (eqb-true (blockStart (l .«bootloader_sums»)) (l .bootloader) (sums .0));
       sums-fit = sym (eqb-true (blockStart (l .sums)) (l .fram) (sums .1));
       diagnostics-fit = eqb-true (l .diagnostics) channels (p .diagnostics-tested);
-      message-fits = ltb-false (l .message) messageSize (p .message-tested);
-      reply-fits = ltb-false (l .reply) replySize (p .reply-tested);
+      message-fits = message;
+      reply-fits = reply;
     }
+  where
+    on-0 : (messageSize ≤ l .message0) × (replySize ≤ l .reply0)
+    on-0 = long-enough (l .message0) (l .reply0) (p .port-0-tested)
+
+    on-1 : (messageSize ≤ l .message1) × (replySize ≤ l .reply1)
+    on-1 = long-enough (l .message1) (l .reply1) (p .port-1-tested)
+
+    message : (side : Side) → messageSize ≤ ofSide side (both (l .message0) (l .message1))
+    message Zero = on-0 .0
+    message One = on-1 .0
+
+    reply : (side : Side) → replySize ≤ ofSide side (both (l .reply0) (l .reply1))
+    reply Zero = on-0 .1
+    reply One = on-1 .1
 
 -- and the limit is one
 limited : (limit : ℕ) → limitFit limit ≡ Fits → isLimit limit ≡ true
@@ -133,34 +162,52 @@ limited limit e = apart (isLimit limit) refl e
     apart true is f = is
     apart false is f = unfit BadLimit f
 
-counted : (count : ℕ) (next : Fit) → countFit count next ≡ Fits → next ≡ Fits
-counted count next e = apart (leb count largestCount) e
+counted : (count : ℕ) (next : Fit) → countFit count next ≡ Fits → (count ≤ largestCount) × (next ≡ Fits)
+counted count next e = apart (leb count largestCount) refl e
   where
-    apart : (b : Bool) → cond b next (Unfit BadCount) ≡ Fits → next ≡ Fits
-    apart true f = f
-    apart false f = unfit BadCount f
+    apart : (b : Bool) → leb count largestCount ≡ b → cond b next (Unfit BadCount) ≡ Fits → (count ≤ largestCount) × (next ≡ Fits)
+    apart true is f = (leb-true count largestCount is, f)
+    apart false is f = unfit BadCount f
 
-module _ (address limit : ℕ) (l : Lengths) (e : setUpFit address limit l ≡ Fits) where
-  passed-set-up : Passed address (framFits (l .bootloader) && framFits (l .fram)) l (limitFit limit)
+named : (number : ℕ) (next : Fit) → portFit number next ≡ Fits → (number ≤ 1) × (next ≡ Fits)
+named number next e = apart (leb number 1) refl e
+  where
+    apart : (b : Bool) → leb number 1 ≡ b → cond b next (Unfit BadPort) ≡ Fits → (number ≤ 1) × (next ≡ Fits)
+    apart true is f = (leb-true number 1 is, f)
+    apart false is f = unfit BadPort f
+
+module _ (strap limit : ℕ) (l : Lengths) (e : setUpFit strap limit l ≡ Fits) where
+  pub passed-set-up : Passed strap (framFits (l .bootloader) && framFits (l .fram)) l (limitFit limit)
   unfolding setUpFit
-  passed-set-up = all-passed address (framFits (l .bootloader) && framFits (l .fram)) l (limitFit limit) e
+  passed-set-up = all-passed strap (framFits (l .bootloader) && framFits (l .fram)) l (limitFit limit) e
 
   pub a-served-set-up-fits : Fitted l
-  a-served-set-up-fits = fitted address (framFits (l .bootloader) && framFits (l .fram)) l (limitFit limit) passed-set-up
+  a-served-set-up-fits = fitted strap (framFits (l .bootloader) && framFits (l .fram)) l (limitFit limit) passed-set-up
 
   pub a-served-set-up-is-limited : isLimit limit ≡ true
   a-served-set-up-is-limited = limited limit (passed-set-up .next-tested)
 
-module _ (u : Unit) (l : Lengths) (e : stepFit u l ≡ Fits) where
-  passed-step : Passed (u .address) (framsAsSetUp u l) l (countFit (u .receiver .count) (limitFit (u .limit)))
+-- what a record is known to have where no refusal is due
+pub record Sound (u : Unit) (number : ℕ) : Type 0 where
+  pub count-0 : countOf (u .ports .port0) ≤ largestCount
+  pub count-1 : countOf (u .ports .port1) ≤ largestCount
+  pub port : number ≤ 1
+  pub limit : isLimit (u .limit) ≡ true
+
+module _ (u : Unit) (number : ℕ) (l : Lengths) (e : stepFit u number l ≡ Fits) where
+  pub passed-step : Passed (u .strap) (framsAsSetUp u l) l (recordFit u number)
   unfolding stepFit
-  passed-step = all-passed (u .address) (framsAsSetUp u l) l (countFit (u .receiver .count) (limitFit (u .limit))) e
+  passed-step = all-passed (u .strap) (framsAsSetUp u l) l (recordFit u number) e
 
   pub a-served-step-fits : Fitted l
-  a-served-step-fits = fitted (u .address) (framsAsSetUp u l) l (countFit (u .receiver .count) (limitFit (u .limit))) passed-step
+  a-served-step-fits = fitted (u .strap) (framsAsSetUp u l) l (recordFit u number) passed-step
 
-  pub a-served-step-is-limited : isLimit (u .limit) ≡ true
-  a-served-step-is-limited = limited (u .limit) (counted (u .receiver .count) (limitFit (u .limit)) (passed-step .next-tested))
+  pub a-served-record-is-sound : Sound u number
+  a-served-record-is-sound =
+      let zero = counted (countOf (u .ports .port0)) _ (passed-step .next-tested) in
+      let one = counted (countOf (u .ports .port1)) (portFit number (limitFit (u .limit))) (zero .1) in
+      let port = named number (limitFit (u .limit)) (one .1) in
+      record { count-0 = zero .0; count-1 = one .0; port = port .0; limit = limited (u .limit) (port .1) }
 
 -- ---- what a verdict guarantees
 
@@ -168,46 +215,51 @@ module _ (u : Unit) (l : Lengths) (e : stepFit u l ≡ Fits) where
 abbrev Legal : ℕ → Verdict → Type 0
 Legal largest (Quiet answer) = 0 ≤ 0
 Legal largest (Dropped answer channel) = 0 ≤ 0
-Legal largest (Command count) = (shortestMessage ≤ count) × (count ≤ largest)
+Legal largest (Command count telemetry) = (shortestMessage ≤ count) × (count ≤ largest)
 
-legal-run : (largest address count : ℕ) (message : List ℕ) → Legal largest (runOf largest address count message)
+legal-run : (largest strap : ℕ) (side : Side) (count : ℕ) (message : List ℕ) → Legal largest (runOf largest strap side count message)
 unfolding runOf
-legal-run largest address count message =
+legal-run largest strap side count message =
     either-way (Legal largest) (ltb count shortestMessage) _ _ (λ _. omega arith)
     (λ enough. either-way (Legal largest) (ltb largest count) _ _ (λ _. omega arith)
     (λ fits. either-way (Legal largest) (soundOf count message) _ _
-    (λ _. either-way (Legal largest) (eqb (getD message 0 0) address) _ _
-    (λ _. (ltb-false count shortestMessage enough, ltb-false largest count fits))
-    (λ _. omega arith))
+    (λ _. ordered (answeredOn strap side (getD message 0 0)) (ltb-false count shortestMessage enough) (ltb-false largest count fits))
     (λ _. omega arith)))
+  where
+    ordered : (a : Answered) → shortestMessage ≤ count → count ≤ largest → Legal largest (commandOn a count)
+    ordered (On telemetry) enough fits = (enough, fits)
+    ordered Nowhere enough fits = omega arith
 
-legal-verdict : (largest address : ℕ) (h : Heard) (message : List ℕ) → Legal largest (verdictOf largest address h message)
+legal-verdict : (largest strap : ℕ) (side : Side) (h : Heard) (message : List ℕ) → Legal largest (verdictOf largest strap side h message)
 unfolding verdictOf
-legal-verdict largest address heard.Taken message = omega arith
-legal-verdict largest address heard.Empty message = omega arith
-legal-verdict largest address heard.Framing message = omega arith
-legal-verdict largest address (heard.Message count) message = legal-run largest address count message
+legal-verdict largest strap side heard.Taken message = omega arith
+legal-verdict largest strap side heard.Empty message = omega arith
+legal-verdict largest strap side heard.Framing message = omega arith
+legal-verdict largest strap side (heard.Message count) message = legal-run largest strap side count message
 
 -- and what is lent to a call that is not refused has the right lengths
 abbrev pub Guaranteed : ℕ → Lengths → Verdict → Type 0
 Guaranteed limit l (Quiet answer) = 0 ≤ 0
 Guaranteed limit l (Dropped answer channel) = 0 ≤ 0
-Guaranteed limit l (Command count) = Fitted l × (isLimit limit ≡ true) × (shortestMessage ≤ count) × (count ≤ largestMessage limit)
+Guaranteed limit l (Command count telemetry) = Fitted l × (isLimit limit ≡ true) × (shortestMessage ≤ count) × (count ≤ largestMessage limit)
 
 guaranteed : (limit : ℕ) (l : Lengths) (v : Verdict) → Fitted l → isLimit limit ≡ true → Legal (largestMessage limit) v → Guaranteed limit l v
 guaranteed limit l (Quiet answer) f is legal = omega arith
 guaranteed limit l (Dropped answer channel) f is legal = omega arith
-guaranteed limit l (Command count) f is legal = (f, is, legal .0, legal .1)
+guaranteed limit l (Command count telemetry) f is legal = (f, is, legal .0, legal .1)
 
-pub what-a-verdict-guarantees : (u : Unit) (byte : ℕ) (l : Lengths) (message : List ℕ)
-    → let j = judgeOf u byte l message in Guaranteed (j .unit .limit) l (j .verdict)
+pub what-a-verdict-guarantees : (u : Unit) (number byte : ℕ) (l : Lengths) (messages : Both (List ℕ))
+    → let j = judgeOf u number byte l messages in Guaranteed (j .unit .limit) l (j .verdict)
 unfolding judgeOf receivedOf
-what-a-verdict-guarantees u byte l message = apart (stepFit u l) refl
+what-a-verdict-guarantees u number byte l messages = apart (stepFit u number l) refl
   where
-    apart : (f : Fit) → stepFit u l ≡ f → let j = unless f u message (receivedOf u byte message) in Guaranteed (j .unit .limit) l (j .verdict)
+    apart : (f : Fit) → stepFit u number l ≡ f
+        → let side = sideOf number in
+        let j = unless f u messages (amongBoth side messages (receivedOf u side byte (ofSide side messages))) in Guaranteed (j .unit .limit) l (j .verdict)
     apart (Unfit answer) e = omega arith
     apart Fits e =
+        let side = sideOf number in
         let largest = largestMessage (u .limit) in
-        let got = receiveOf largest (u .receiver) byte message in
-        guaranteed (u .limit) l (verdictOf largest (u .address) (got .heard) (got .message)) (a-served-step-fits u l e) (a-served-step-is-limited u l e)
-        (legal-verdict largest (u .address) (got .heard) (got .message))
+        let got = hearOf largest (portOf side (u .ports)) byte (ofSide side messages) in
+        guaranteed (u .limit) l (verdictOf largest (u .strap) side (got .heard) (got .message)) (a-served-step-fits u number l e) (a-served-record-is-sound u number l e .limit)
+        (legal-verdict largest (u .strap) side (got .heard) (got .message))

@@ -4,17 +4,16 @@ use crate::Unit;
 use answer::Answer;
 use blocks::BLOCK_SIZE;
 use carrying::is_limit;
-use line::framing::FEND;
-use line::framing::FESC;
 use line::packing::MESSAGE_SIZE;
 use line::packing::REPLY_SIZE;
 use memory::counts::CHANNELS;
 use memory::edac::EDAC_SIZE;
+use ports::count_of;
 ghost use mathlib.Core.Path.{_≡_};
 ghost use mathlib.Core.Bool.{_&&_};
 ghost use lib.Dec.{eqb};
 ghost use Rattle.blocks.specs.Fram.{blockStart};
-ghost use Rattle.judging.specs.Fitting.{forbidden, framFits, sumsFit, framAsSetUp, framsAsSetUp, countFit, limitFit, lengthsFit, setUpFit, stepFit};
+ghost use Rattle.judging.specs.Fitting.{framFits, sumsFit, framAsSetUp, framsAsSetUp, tooShort, limitFit, portFit, recordFit, lengthsFit, setUpFit, stepFit};
 
 // Whether a call can be served.
 pub enum Fit {
@@ -22,8 +21,10 @@ pub enum Fit {
     Unfit(Answer),
 }
 
-// The address that stands for no unit. FEND and FESC are no addresses either.
-const NOBODY: u8 = 0x00;
+// The largest strap, and the larger number of a port.
+const LAST_STRAP: u8 = 7;
+
+const LAST_PORT: u8 = 1;
 
 // The least and the most bytes of an FRAM.
 const LEAST_FRAM: usize = 256;
@@ -32,19 +33,6 @@ const MOST_FRAM: usize = 262_144;
 
 // The largest count that a receiver has, whatever its limit.
 const LARGEST_COUNT: usize = 1034;
-
-// Whether no unit has this address.
-fn is_forbidden(address: u8) -> bool
-    ensures { λ r. ⌜ r ≡ forbidden address ⌝ }
-{
-    if address == NOBODY {
-        return true;
-    }
-    if address == FEND {
-        return true;
-    }
-    address == FESC
-}
 
 // Whether an FRAM can have this length.
 fn fram_fits(size: usize) -> bool
@@ -79,12 +67,22 @@ fn all_sums_fit(lengths: Lengths) -> bool
     false
 }
 
-// 20 to 25, and then what comes after them.
-fn lengths_fit(address: u8, fits: bool, lengths: Lengths, next: Fit) -> Fit
-    ensures { λ r. ⌜ r ≡ lengthsFit address fits lengths next ⌝ }
+// Whether a port has a buffer that is too short.
+fn too_short(message: usize, reply: usize) -> bool
+    ensures { λ r. ⌜ r ≡ tooShort message reply ⌝ }
 {
-    if is_forbidden(address) {
-        return Fit::Unfit(Answer::BadAddress);
+    if message < MESSAGE_SIZE {
+        return true;
+    }
+    reply < REPLY_SIZE
+}
+
+// 20 to 25, and then what comes after them.
+fn lengths_fit(strap: u8, fits: bool, lengths: Lengths, next: Fit) -> Fit
+    ensures { λ r. ⌜ r ≡ lengthsFit strap fits lengths next ⌝ }
+{
+    if LAST_STRAP < strap {
+        return Fit::Unfit(Answer::BadStrap);
     }
     if lengths.edac != EDAC_SIZE {
         return Fit::Unfit(Answer::BadEdac);
@@ -98,10 +96,10 @@ fn lengths_fit(address: u8, fits: bool, lengths: Lengths, next: Fit) -> Fit
     if lengths.diagnostics != CHANNELS {
         return Fit::Unfit(Answer::BadDiagnostics);
     }
-    if lengths.message < MESSAGE_SIZE {
+    if too_short(lengths.message0, lengths.reply0) {
         return Fit::Unfit(Answer::BadBuffers);
     }
-    if lengths.reply < REPLY_SIZE {
+    if too_short(lengths.message1, lengths.reply1) {
         return Fit::Unfit(Answer::BadBuffers);
     }
     next
@@ -128,11 +126,11 @@ fn frams_fit(bootloader: usize, fram: usize) -> bool
     false
 }
 
-pub fn set_up_fit(address: u8, limit: usize, lengths: Lengths) -> Fit
-    ensures { λ r. ⌜ r ≡ setUpFit address limit lengths ⌝ }
+pub fn set_up_fit(strap: u8, limit: usize, lengths: Lengths) -> Fit
+    ensures { λ r. ⌜ r ≡ setUpFit strap limit lengths ⌝ }
 {
     let fits = frams_fit(lengths.bootloader, lengths.fram);
-    lengths_fit(address, fits, lengths, limit_fits(limit))
+    lengths_fit(strap, fits, lengths, limit_fits(limit))
 }
 
 // Whether an FRAM has the length that was set up.
@@ -155,25 +153,40 @@ fn frams_as_set_up(unit: Unit, lengths: Lengths) -> bool
     false
 }
 
-// 26, then 29.
-fn record_fits(count: usize, limit: u16) -> Fit
-    ensures { λ r. ⌜ r ≡ countFit count (limitFit limit) ⌝ }
+// 27, then 29.
+fn port_fits(port: u8, limit: u16) -> Fit
+    ensures { λ r. ⌜ r ≡ portFit port (limitFit limit) ⌝ }
 {
-    if LARGEST_COUNT < count {
-        return Fit::Unfit(Answer::BadCount);
+    if LAST_PORT < port {
+        return Fit::Unfit(Answer::BadPort);
     }
     limit_fits(limit as usize)
 }
 
-pub fn step_fit(unit: Unit, lengths: Lengths) -> Fit
-    ensures { λ r. ⌜ r ≡ stepFit unit lengths ⌝ }
+// 26 for either port, then 27 and 29.
+fn record_fits(unit: Unit, port: u8) -> Fit
+    ensures { λ r. ⌜ r ≡ recordFit unit port ⌝ }
 {
-    let receiver = unit.receiver;
-    // The record is tested when what is lent has passed: as a value of `next`, made before, it would cost each byte 17 instructions more.
+    let ports = unit.ports;
+    let port0 = ports.port0;
+    let port1 = ports.port1;
+    if LARGEST_COUNT < count_of(port0) {
+        return Fit::Unfit(Answer::BadCount);
+    }
+    if LARGEST_COUNT < count_of(port1) {
+        return Fit::Unfit(Answer::BadCount);
+    }
+    port_fits(port, unit.limit)
+}
+
+pub fn step_fit(unit: Unit, port: u8, lengths: Lengths) -> Fit
+    ensures { λ r. ⌜ r ≡ stepFit unit port lengths ⌝ }
+{
+    // The record is tested when what is lent has passed: as a value of `next`, made before, it would cost each byte more.
     let as_set_up = frams_as_set_up(unit, lengths);
-    let fit = lengths_fit(unit.address, as_set_up, lengths, Fit::Fits);
+    let fit = lengths_fit(unit.strap, as_set_up, lengths, Fit::Fits);
     match fit {
         Fit::Unfit(answer) => Fit::Unfit(answer),
-        Fit::Fits => record_fits(receiver.count, unit.limit),
+        Fit::Fits => record_fits(unit, port),
     }
 }

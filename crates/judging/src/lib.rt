@@ -1,28 +1,31 @@
 // One byte heard and judged: refused, taken, a run dropped, or a command to carry out. Of all that a unit is lent this room sees the
-// lengths, and the message buffer alone.
+// lengths, and the message buffers alone.
 pub mod fitting;
 
 use answer::Answer;
 use carrying::Mode;
 use line::packing::SHORTEST_MESSAGE;
 use line::receiver::Heard;
-use line::receiver::Receiver;
+use ports::Answered;
+use ports::Ports;
+use ports::Side;
 ghost use mathlib.Core.Path.{_≡_};
 ghost use Prim.Native.Nat.{_≤_};
 ghost use lib.ListN.{length};
 ghost use Rattle.line.specs.Packing.{shortestMessage, messageSize};
-ghost use Rattle.judging.specs.Judging.{largestMessage, soundOf, runOf, judgingOf, receivedOf, judgeOf};
+ghost use Rattle.ports.specs.Sides.{both};
+ghost use Rattle.judging.specs.Judging.{largestMessage, dropped, soundOf, heardFor, runOf, judgingOf, receivedOf, judgeOf};
 
-// What the unit is between two calls: its address, the most data bytes of a message on its bus, its mode, whether bootloader FRAM is
-// locked, the lengths of bootloader FRAM and of user FRAM that were set up, and its receiver.
+// What the unit is between two calls: its strap, the most data bytes of a message on its bus, its mode, whether bootloader FRAM is
+// locked, the lengths of bootloader FRAM and of user FRAM that were set up, and its two ports.
 pub struct Unit {
-    pub address: u8,
+    pub strap: u8,
     pub limit: u16,
     pub mode: Mode,
     pub locked: bool,
     pub bootloader_len: usize,
     pub fram_len: usize,
-    pub receiver: Receiver,
+    pub ports: Ports,
 }
 
 // The lengths of what is lent to a call.
@@ -33,8 +36,10 @@ pub struct Lengths {
     pub fram: usize,
     pub sums: usize,
     pub diagnostics: usize,
-    pub message: usize,
-    pub reply: usize,
+    pub message0: usize,
+    pub reply0: usize,
+    pub message1: usize,
+    pub reply1: usize,
 }
 
 // What a byte brings about.
@@ -43,8 +48,8 @@ pub enum Verdict {
     Quiet(Answer),
     // A run dropped: its answer, and the diagnostic that counts it.
     Dropped(Answer, usize),
-    // A command for this unit: a sound message of so many bytes.
-    Command(usize),
+    // A command for this unit: a sound message of so many bytes, and the port on which it is answered.
+    Command(usize, Side),
 }
 
 // A verdict with the unit afterwards.
@@ -53,14 +58,14 @@ pub struct Judged {
     pub verdict: Verdict,
 }
 
-// The diagnostics that count dropped runs: 0x07 to 0x0A.
-const FRAMINGS: usize = 0x07;
+// Which of the four error counts of its port a dropped run goes to.
+const FRAMINGS: usize = 0;
 
-const RUNTS: usize = 0x08;
+const RUNTS: usize = 1;
 
-const OVERSIZES: usize = 0x09;
+const OVERSIZES: usize = 2;
 
-const BAD_CRCS: usize = 0x0a;
+const BAD_CRCS: usize = 3;
 
 // A message ends with its CRC, of two bytes.
 const CRC_SIZE: usize = 2;
@@ -74,45 +79,63 @@ fn is_sound(count: usize, message: &[u8]) -> bool
     crc::sum(&message[0..end]) == field::fields::word16(message, end)
 }
 
-// A run that is neither empty nor framing, where the largest message has so many bytes.
-fn run(largest: u16, address: u8, count: usize, message: &[u8]) -> Verdict
-    requires { ⌜ (largest ≤ messageSize) × (messageSize ≤ length (now message)) ⌝ }
-    ensures { λ r. ⌜ r ≡ runOf largest address count (now (message .entry)) ⌝ }
+// A run dropped, with the diagnostic of its port that counts it.
+fn dropped_as(side: Side, answer: Answer, which: usize) -> Verdict
+    requires { ⌜ which ≤ 3 ⌝ }
+    ensures { λ r. ⌜ r ≡ dropped side answer which ⌝ }
 {
-    if count < SHORTEST_MESSAGE {
-        return Verdict::Dropped(Answer::Runt, RUNTS);
-    }
-    if (largest as usize) < count {
-        return Verdict::Dropped(Answer::Oversize, OVERSIZES);
-    }
-    if !is_sound(count, message) {
-        return Verdict::Dropped(Answer::BadCrc, BAD_CRCS);
-    }
-    if message[0] != address {
-        return Verdict::Quiet(Answer::Elsewhere);
-    }
-    Verdict::Command(count)
+    Verdict::Dropped(answer, ports::first_count(side) + which)
 }
 
-// One byte received by a unit that is not refused.
-fn received(unit: Unit, byte: u8, message: &mut [u8]) -> Judged
-    requires { ⌜ (largestMessage (unit .limit) ≤ messageSize) × (messageSize ≤ length (now message)) ⌝ }
-    ensures { λ r. ⌜ judgingOf r (now (message .exit)) ≡ receivedOf unit byte (now (message .entry)) ⌝ }
+// A sound message by its address: a command, or not for this port.
+fn heard_for(strap: u8, side: Side, destination: u8, count: usize) -> Verdict
+    ensures { λ r. ⌜ r ≡ heardFor strap side destination count ⌝ }
 {
-    let receiver = unit.receiver;
+    let on = ports::answered_on(strap, side, destination);
+    match on {
+        Answered::On(telemetry) => Verdict::Command(count, telemetry),
+        Answered::Nowhere => Verdict::Quiet(Answer::Elsewhere),
+    }
+}
+
+// A run that is neither empty nor framing, where the largest message has so many bytes.
+fn run(largest: u16, strap: u8, side: Side, count: usize, message: &[u8]) -> Verdict
+    requires { ⌜ (largest ≤ messageSize) × (messageSize ≤ length (now message)) ⌝ }
+    ensures { λ r. ⌜ r ≡ runOf largest strap side count (now (message .entry)) ⌝ }
+{
+    if count < SHORTEST_MESSAGE {
+        return dropped_as(side, Answer::Runt, RUNTS);
+    }
+    if (largest as usize) < count {
+        return dropped_as(side, Answer::Oversize, OVERSIZES);
+    }
+    if !is_sound(count, message) {
+        return dropped_as(side, Answer::BadCrc, BAD_CRCS);
+    }
+    heard_for(strap, side, message[0], count)
+}
+
+// One byte received on a port, of a unit that is not refused. The message buffer is that of the port.
+fn received(unit: Unit, side: Side, byte: u8, message: &mut [u8]) -> Judged
+    requires { ⌜ (largestMessage (unit .limit) ≤ messageSize) × (messageSize ≤ length (now message)) ⌝ }
+    ensures { λ r. ⌜ judgingOf r (now (message .exit)) ≡ receivedOf unit side byte (now (message .entry)) ⌝ }
+{
+    let ports = unit.ports;
     let mode = unit.mode;
     let largest = unit.limit + SHORTEST_MESSAGE as u16;
-    let got = line::receiver::receive(largest, receiver, byte, message);
+    let port = ports::port_of(side, ports);
+    let got = ports::hear(largest, port, byte, message);
     let heard = got.heard;
-    let after = got.receiver;
+    let heard_by = got.port;
+    let after = ports::with_port(side, ports, heard_by);
     let next = Unit {
-        address: unit.address,
+        strap: unit.strap,
         limit: unit.limit,
         mode,
         locked: unit.locked,
         bootloader_len: unit.bootloader_len,
         fram_len: unit.fram_len,
-        receiver: after,
+        ports: after,
     };
     match heard {
         Heard::Taken => Judged {
@@ -123,12 +146,15 @@ fn received(unit: Unit, byte: u8, message: &mut [u8]) -> Judged
             unit: next,
             verdict: Verdict::Quiet(Answer::Taken),
         },
-        Heard::Framing => Judged {
-            unit: next,
-            verdict: Verdict::Dropped(Answer::Framing, FRAMINGS),
-        },
+        Heard::Framing => {
+            let verdict = dropped_as(side, Answer::Framing, FRAMINGS);
+            Judged {
+                unit: next,
+                verdict,
+            }
+        }
         Heard::Message(count) => {
-            let verdict = run(largest, unit.address, count, message);
+            let verdict = run(largest, unit.strap, side, count, message);
             Judged {
                 unit: next,
                 verdict,
@@ -137,17 +163,31 @@ fn received(unit: Unit, byte: u8, message: &mut [u8]) -> Judged
     }
 }
 
-// One byte, judged. `lengths` are those of all that is lent to the call.
-pub fn judge(unit: Unit, byte: u8, lengths: Lengths, message: &mut [u8]) -> Judged
-    requires { ⌜ lengths .message ≡ length (now message) ⌝ }
-    ensures { λ r. ⌜ judgingOf r (now (message .exit)) ≡ judgeOf unit byte lengths (now (message .entry)) ⌝ }
+// One byte on a port, judged. `lengths` are those of all that is lent to the call.
+pub fn judge(
+    unit: Unit,
+    port: u8,
+    byte: u8,
+    lengths: Lengths,
+    message0: &mut [u8],
+    message1: &mut [u8],
+) -> Judged
+    requires { ⌜ (lengths .message0 ≡ length (now message0)) × (lengths .message1 ≡ length (now message1)) ⌝ }
+    ensures { λ r. ⌜ judgingOf r (both (now (message0 .exit)) (now (message1 .exit)))
+        ≡ judgeOf unit port byte lengths (both (now (message0 .entry)) (now (message1 .entry))) ⌝ }
 {
-    let fit = fitting::step_fit(unit, lengths);
+    let fit = fitting::step_fit(unit, port, lengths);
     match fit {
         fitting::Fit::Unfit(answer) => Judged {
             unit,
             verdict: Verdict::Quiet(answer),
         },
-        fitting::Fit::Fits => received(unit, byte, message),
+        fitting::Fit::Fits => {
+            if port == 0 {
+                received(unit, Side::Zero, byte, message0)
+            } else {
+                received(unit, Side::One, byte, message1)
+            }
+        }
     }
 }

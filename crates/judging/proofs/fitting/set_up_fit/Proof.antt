@@ -18,7 +18,7 @@ returns : tie.Need-returns
 unfolding setUpFit
 returns c =
     c .lengths-fit .ensures
-    ∙ ap₂ (λ f n. lengthsFit (c .before .before .before .args .address) f (c .before .before .before .args .lengths) n) (c .before .before .frams-fit .ensures) (c .before .limit-fits .ensures)
+    ∙ ap₂ (λ f n. lengthsFit (c .before .before .before .args .strap) f (c .before .before .before .args .lengths) n) (c .before .before .frams-fit .ensures) (c .before .limit-fits .ensures)
 
 pub set-up-fit-spec : {M : Type 1} → statement M
 set-up-fit-spec = tie.close (tie.spec frams-fit-requires limit-fits-requires lengths-fit-requires returns)

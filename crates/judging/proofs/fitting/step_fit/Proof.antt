@@ -25,18 +25,18 @@ record-fits-requires c κs = search needs
 returns : tie.Need-returns
 unfolding stepFit
 returns c =
-    let a = c .before .before .before .before .before .before .args in
-    let same = ap (λ f. lengthsFit (a .unit .address) f (a .lengths) Fits) (c .before .before .before .before .frams-as-set-up .ensures) in
-    refused-all-the-same (a .unit .address) (framsAsSetUp (a .unit) (a .lengths)) (a .lengths) _ _
+    let a = c .before .before .before .before .before .args in
+    let same = ap (λ f. lengthsFit (a .unit .strap) f (a .lengths) Fits) (c .before .before .before .before .frams-as-set-up .ensures) in
+    refused-all-the-same (a .unit .strap) (framsAsSetUp (a .unit) (a .lengths)) (a .lengths) _ _
     (sym same ∙ sym (c .before .before .before .lengths-fit .ensures) ∙ c .before .fit .given .1)
 
 returns-2 : tie.Need-returns-2
 unfolding stepFit
 returns-2 c =
-    let a = c .before .before .before .before .before .before .args in
-    let same = ap (λ f. lengthsFit (a .unit .address) f (a .lengths) Fits) (c .before .before .before .before .frams-as-set-up .ensures) in
+    let a = c .before .before .before .before .before .args in
+    let same = ap (λ f. lengthsFit (a .unit .strap) f (a .lengths) Fits) (c .before .before .before .before .frams-as-set-up .ensures) in
     c .record-fits .ensures
-    ∙ and-then (a .unit .address) (framsAsSetUp (a .unit) (a .lengths)) (a .lengths) _
+    ∙ and-then (a .unit .strap) (framsAsSetUp (a .unit) (a .lengths)) (a .lengths) _
     (sym same ∙ sym (c .before .before .before .lengths-fit .ensures) ∙ c .before .enum-told .given .1)
 
 pub step-fit-spec : {M : Type 1} → statement M
