@@ -1,2 +1,3 @@
 pub mod Sealing
 pub mod Saying
+pub mod OnPorts

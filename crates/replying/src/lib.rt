@@ -2,6 +2,8 @@
 use answer::Answer;
 use carrying::Ended;
 use memory::bytes::put;
+use ports::Fate;
+use ports::Side;
 ghost use mathlib.Core.Path.{_≡_};
 ghost use Prim.Native.Nat.{ℕ, _-_, _≤_};
 ghost use lib.ListN.{length, getD};
@@ -9,7 +11,9 @@ ghost use Rattle.line.specs.Packing.{shortestMessage, messageSize, replySize, p
 ghost use Rattle.carrying.specs.declared.Ended.the-variants as came;
 ghost use Rattle.carrying.specs.Ending.{longestData};
 ghost use Rattle.memory.specs.Bytes.{stretch, begun};
+ghost use Rattle.ports.specs.Sides.{both};
 ghost use Rattle.replying.specs.Replies.{replyControl, replyMessage, said, saidOf, endingOf};
+ghost use Rattle.replying.specs.Ports.{fateOfReply, fateOf, silentOf, saidOn, saidByOf, saidOnOf};
 
 // A message's head is destination, source and control, at these places, HEAD bytes in all; its CRC has CRC_SIZE.
 const DESTINATION: usize = 0;
@@ -111,5 +115,85 @@ pub fn say(ended: Ended, count: usize, message: &[u8], made: &mut [u8], reply: &
                 reply,
             ))
         }
+    }
+}
+
+// What becomes of a reply, where its port is sending or not.
+fn fate_of_reply(control: u8, sending: bool) -> Fate
+    ensures { λ r. ⌜ r ≡ fateOfReply control sending ⌝ }
+{
+    if control < POLLED {
+        return Fate::Nothing;
+    }
+    if sending { Fate::Lost } else { Fate::Leaves }
+}
+
+// What becomes of the reply to a command that came to this.
+pub fn fate_of(ended: Ended, control: u8, sending: bool) -> Fate
+    ensures { λ r. ⌜ r ≡ fateOf ended control sending ⌝ }
+{
+    match ended {
+        Ended::Done(_) => fate_of_reply(control, sending),
+        Ended::Refused => fate_of_reply(control, sending),
+        Ended::Unfitted => Fate::Nothing,
+    }
+}
+
+// The answer to a command of which nothing is sent.
+fn silent_of(ended: Ended) -> Answer
+    ensures { λ r. ⌜ r ≡ silentOf ended ⌝ }
+{
+    match ended {
+        Ended::Done(_) => Answer::Done,
+        Ended::Refused => Answer::Refused,
+        Ended::Unfitted => Answer::Unfitted,
+    }
+}
+
+// The same as `say`, by the port on which it is said.
+fn say_by(
+    side: Side,
+    ended: Ended,
+    count: usize,
+    message: &[u8],
+    made: &mut [u8],
+    reply0: &mut [u8],
+    reply1: &mut [u8],
+) -> Answer
+    requires { ⌜ ((n : ℕ) → ended ≡ came.Done n → n ≤ longestData) ⌝ }
+    requires { ⌜ (shortestMessage ≤ count) × (count ≤ messageSize) × (messageSize ≤ length (now message)) × (length (now made) ≡ messageSize)
+        × (replySize ≤ length (now reply0)) × (replySize ≤ length (now reply1)) ⌝ }
+    ensures { λ r. ⌜ saidOn r (both (now (reply0 .exit)) (now (reply1 .exit)))
+        ≡ saidByOf side (getD (now (message .entry)) 0 0) (getD (now (message .entry)) 1 0) (getD (now (message .entry)) 2 0)
+        (stretch 3 (count - 5) (now (message .entry))) (endingOf ended (now (made .entry))) (both (now (reply0 .entry)) (now (reply1 .entry))) ⌝ }
+{
+    match side {
+        Side::Zero => say(ended, count, message, made, reply0),
+        Side::One => say(ended, count, message, made, reply1),
+    }
+}
+
+// Answers a command on a port, by what becomes of its reply: one that is lost writes nothing.
+pub fn say_on(
+    fate: Fate,
+    side: Side,
+    ended: Ended,
+    count: usize,
+    message: &[u8],
+    made: &mut [u8],
+    reply0: &mut [u8],
+    reply1: &mut [u8],
+) -> Answer
+    requires { ⌜ ((n : ℕ) → ended ≡ came.Done n → n ≤ longestData) ⌝ }
+    requires { ⌜ (shortestMessage ≤ count) × (count ≤ messageSize) × (messageSize ≤ length (now message)) × (length (now made) ≡ messageSize)
+        × (replySize ≤ length (now reply0)) × (replySize ≤ length (now reply1)) ⌝ }
+    ensures { λ r. ⌜ saidOn r (both (now (reply0 .exit)) (now (reply1 .exit)))
+        ≡ saidOnOf fate side (getD (now (message .entry)) 0 0) (getD (now (message .entry)) 1 0) (getD (now (message .entry)) 2 0)
+        (stretch 3 (count - 5) (now (message .entry))) (endingOf ended (now (made .entry))) (both (now (reply0 .entry)) (now (reply1 .entry))) ⌝ }
+{
+    match fate {
+        Fate::Lost => silent_of(ended),
+        Fate::Nothing => say_by(side, ended, count, message, made, reply0, reply1),
+        Fate::Leaves => say_by(side, ended, count, message, made, reply0, reply1),
     }
 }

@@ -1,20 +1,18 @@
--- Set-up, and one byte in and one answer out: 01, "The unit and its neighbours" and "One byte in, one answer out"; 02, T-06, T-07 and T-13.
--- Assumes nothing.
-use Prim.Native.Nat.{ℕ, _-_}
+-- Set-up, and one byte in and one answer out: 01, "The unit and its neighbours" and "One byte in, one answer out"; 02, T-01, T-06 and T-07. Assumes
+-- nothing.
+use Prim.Native.Nat.{ℕ}
 use mathlib.Core.Bool.{Bool, false}
 use mathlib.Core.List.{List}
-use lib.ListN.{length, getD}
-use Rattle.line.specs.Receiver.{fresh}
-use Rattle.memory.specs.Bytes.{stretch}
+use lib.ListN.{length}
 use Rattle.memory.specs.Counts.{countedUp}
 use Rattle.memory.specs.Status.{statusWritten}
 use Rattle.blocks.specs.Fram.{Kept, kept, freshSums}
 use Rattle.carrying.specs.declared.Mode.the-variants.{Bootloader}
-use Rattle.carrying.specs.Ending.{Ending, endedOf}
-use Rattle.carrying.specs.Held.{Frams, frams, Held, after}
-use Rattle.command.specs.Command.{commandOf}
-use Rattle.command.specs.Cost.{commandCost}
+use Rattle.carrying.specs.Held.{Frams, frams}
 use Rattle.answer.specs.declared.Answer.the-variants.{Taken}
+use Rattle.ports.specs.declared.Sending.{Sending}
+use Rattle.ports.specs.Sides.{sideOf, ofSide}
+use Rattle.ports.specs.Ports.{bothFresh, isSending}
 use Rattle.judging.specs.declared.Unit.{Unit}
 use Rattle.judging.specs.declared.Verdict.{Verdict}
 use Rattle.judging.specs.declared.Verdict.the-variants.{Quiet, Dropped, Command}
@@ -22,25 +20,25 @@ use Rattle.judging.specs.declared.fitting.Fit.{Fit}
 use Rattle.judging.specs.declared.fitting.Fit.the-variants.{Fits, Unfit}
 use Rattle.judging.specs.Fitting.{setUpFit}
 use Rattle.judging.specs.Judging.{judgeOf}
-use Rattle.replying.specs.Replies.{codeOf, saidOf}
-use Rattle.unit.specs.World.{World, lengthsOf, Outcome, outcome, costing, withFrams, withStanding, withMessage, withDiagnostics, withReply, heldOf, withHeld}
+use Rattle.commanding.specs.World.{World, lengthsOf, Outcome, outcome, withFrams, withMessages, withDiagnostics}
+use Rattle.commanding.specs.Commanded.{commandedOf}
 
 -- ---- set-up
 
--- The record that a refused set-up hands back.
+-- The record that a refused set-up hands back: strap 8, which no unit has (02, T-01).
 abbrev pub nobody : Unit
-nobody = record { address = 0; limit = 0; mode = Bootloader; locked = false; «bootloader_len» = 0; «fram_len» = 0; receiver = fresh }
+nobody = record { strap = 8; limit = 0; mode = Bootloader; locked = false; «bootloader_len» = 0; «fram_len» = 0; ports = bothFresh }
 
 -- The record of a unit that was set up.
 abbrev pub somebody : ℕ → ℕ → Bool → World → Unit
-somebody address limit locked w = record {
-  address = address;
+somebody strap limit locked w = record {
+  strap = strap;
   limit = limit;
   mode = Bootloader;
   locked = locked;
   «bootloader_len» = length (w .frams .bootloader .fram);
   «fram_len» = length (w .frams .user .fram);
-  receiver = fresh;
+  ports = bothFresh;
 }
 
 -- A memory with all its sums computed, and both.
@@ -56,41 +54,25 @@ preparedFor locked w = withDiagnostics (withFrams w (bothSummed (w .frams))) (st
 
 -- A refused set-up changes nothing that is lent.
 abbrev pub setUpAs : Fit → ℕ → ℕ → Bool → World → Outcome
-setUpAs (Unfit answer) address limit locked w = outcome nobody answer w
-setUpAs Fits address limit locked w = outcome (somebody address limit locked w) Taken (preparedFor locked w)
+setUpAs (Unfit answer) strap limit locked w = outcome nobody answer w
+setUpAs Fits strap limit locked w = outcome (somebody strap limit locked w) Taken (preparedFor locked w)
 
--- Set-up computes all sums, starts in bootloader mode with a fresh receiver and with bootloader FRAM locked or not as it is told, which it
+-- Set-up computes all sums, starts in bootloader mode with both receivers fresh and with bootloader FRAM locked or not as it is told, which it
 -- shows in the diagnostics, answers 0 and changes nothing else that is lent.
 unfoldable pub setUpOf : ℕ → ℕ → Bool → World → Outcome
-setUpOf address limit locked w = setUpAs (setUpFit address limit (lengthsOf w)) address limit locked w
+setUpOf strap limit locked w = setUpAs (setUpFit strap limit (lengthsOf w)) strap limit locked w
 
 -- ---- one byte in, one answer out
 
--- A command that came to an ending, answered: what it changed, what is said, and what it cost. `destination`, `source`, `control` and `field` are
--- the command's.
-unfoldable pub answered : Unit → ℕ → ℕ → ℕ → List ℕ → Ending Held → World → Outcome
-answered u destination source control field ending w =
-    let held = after (heldOf u w) ending in
-    let s = saidOf destination source control field ending (w .buffers .reply) in
-    costing (commandCost (codeOf control) (endedOf ending) field) (outcome (withStanding u (held .standing)) (s .answer) (withReply (withHeld w held) (s .reply)))
+-- What a verdict comes to: an answer alone, a dropped run that is counted, or a command, which stands in the message buffer `message` and is answered
+-- on a port that may be sending.
+unfoldable pub servedOf : Unit → Verdict → Sending → List ℕ → World → Outcome
+servedOf u (Quiet answer) sending message w = outcome u answer w
+servedOf u (Dropped answer channel) sending message w = outcome u answer (withDiagnostics w (countedUp (w .diagnostics) channel))
+servedOf u (Command count telemetry) sending message w = commandedOf u telemetry (isSending telemetry sending) count message w
 
--- A command for this unit, carried out and answered. Its reply has no more data than the unit's limit allows.
-abbrev pub orderedOf : Unit → ℕ → ℕ → ℕ → List ℕ → World → Outcome
-orderedOf u destination source control field w =
-    answered u destination source control field (commandOf (u .limit) (codeOf control) (heldOf u w) field) w
-
--- The same of a sound message: its first `count` bytes are destination, source, control, data and CRC.
-unfoldable pub commandedOf : Unit → ℕ → World → Outcome
-commandedOf u count w =
-    let message = w .buffers .message in orderedOf u (getD message 0 0) (getD message 1 0) (getD message 2 0) (stretch 3 (count - 5) message) w
-
--- What a verdict comes to: an answer alone, a dropped run that is counted, or a command.
-unfoldable pub servedOf : Unit → Verdict → World → Outcome
-servedOf u (Quiet answer) w = outcome u answer w
-servedOf u (Dropped answer channel) w = outcome u answer (withDiagnostics w (countedUp (w .diagnostics) channel))
-servedOf u (Command count) w = commandedOf u count w
-
--- One byte in, one answer out.
-unfoldable pub stepOf : Unit → ℕ → World → Outcome
-stepOf u byte w =
-    let j = judgeOf u byte (lengthsOf w) (w .buffers .message) in servedOf (j .unit) (j .verdict) (withMessage w (j .message))
+-- One byte that came in on the port of this number, one answer out. `sending` says which ports are sending.
+unfoldable pub stepOf : Unit → ℕ → ℕ → Sending → World → Outcome
+stepOf u number byte sending w =
+    let j = judgeOf u number byte (lengthsOf w) (w .buffers .messages) in
+    servedOf (j .unit) (j .verdict) sending (ofSide (sideOf number) (j .message)) (withMessages w (j .message))
