@@ -1,26 +1,26 @@
 -- 02, T-07: a PEEK, POKE or CRC range over the border of the FRAMs is refused, whatever is fitted, locked and lent. Assumes nothing.
-use mathlib.Core.Path.{_≡_, refl, sym, ap, ap₂, _∙_}
+use mathlib.Core.Path.{_≡_, refl, ap, ap₂, _∙_}
 use mathlib.Core.Bool.{Bool, true, false, cond}
 use mathlib.Core.List.{List, [], _∷_, _++_}
-use Prim.Native.Nat.{ℕ, _+_, _-_, _≤_, _<_}
+use Prim.Native.Nat.{ℕ, _+_, _-_, _<_}
 use native.Mathlib.Omega.{arith}
 use borrow.Author.Tests.{le-leb, lt-ltb}
 use lib.Dec.{eqb, ltb}
-use lib.ListN.{length, getD}
+use lib.ListN.{length}
 use Rattle.field.specs.Fields.{word16At, word32At, bytes16, bytes32, shortCount}
 use Rattle.field.proofs.Words.{two-bytes, four-bytes}
 use Rattle.blocks.specs.Fram.{Kept}
 use Rattle.carrying.specs.Ending.{Ending, refused}
-use Rattle.carrying.specs.Held.{oneOf, framOf, withFram, inside, reading, onFrams}
-use Rattle.fram_commands.specs.Windows.{firstOfBootloader, firstOfUser, endOfUser, firstOf, whichOf, overBorder, inFram}
+use Rattle.carrying.specs.Held.{oneOf, withFram, inside, reading, onFrams}
+use Rattle.fram_commands.specs.Windows.{firstOfBootloader, firstOfUser, endOfUser, firstOf, whichOf, overBorder}
 use Rattle.fram_commands.specs.Peek.{peekRangeOf, peekOf}
 use Rattle.fram_commands.specs.Poke.{pokeOf}
 use Rattle.fram_commands.specs.Crc.{rangeSize, crcOf}
-use Rattle.fram_commands.specs.ByAddress.{peekByAddress, lockOf, pokeByAddress, crcByAddress}
+use Rattle.fram_commands.specs.ByAddress.{peekByAddress, pokeByAddress, crcByAddress}
 use Rattle.command.proofs.Codes.{in-either-mode}
 use Rattle.judging.specs.declared.Unit.{Unit}
 use Rattle.replying.specs.Replies.{codeOf}
-use Rattle.unit.specs.World.{heldOf}
+use Rattle.commanding.specs.World.{heldOf}
 use Rattle.demands.specs.Calls.{Call}
 use Rattle.demands.specs.Orders.{cameTo, OverTheBorder}
 

@@ -10,63 +10,73 @@ use lib.Dec.{eqb, leb, ltb}
 use lib.ListN.{length, drop, getD}
 use Rattle.line.specs.declared.receiver.Heard.{Heard}
 use Rattle.line.specs.declared.receiver.Heard.the-variants as heard
-use Rattle.line.specs.Packing.{shortestMessage, messageSize, replySize}
-use Rattle.line.specs.Receiver.{receiveOf}
+use Rattle.line.specs.Packing.{shortestMessage}
+use Rattle.ports.specs.declared.Side.{Side}
+use Rattle.ports.specs.declared.Sending.{Sending}
+use Rattle.ports.specs.declared.Answered.{Answered}
+use Rattle.ports.specs.declared.Answered.the-variants.{On, Nowhere}
+use Rattle.ports.specs.declared.Side.the-variants.{Zero, One}
+use Rattle.ports.specs.Sides.{sideOf, Both, ofSide, put}
+use Rattle.ports.specs.Ports.{answeredOn, portOf, withPort, countOf, AfterByte, hearOf, firstCount, isSending}
 use Rattle.memory.specs.Bytes.{stretch}
 use Rattle.memory.specs.Counts.{channels, countedUp}
 use Rattle.memory.specs.Edac.{edacSize}
 use Rattle.carrying.specs.Ending.{isLimit}
 use Rattle.carrying.proofs.Room.{either-way, part}
 use Rattle.answer.specs.declared.Answer.{Answer}
-use Rattle.answer.specs.declared.Answer.the-variants.{Taken, Framing, Runt, Oversize, BadCrc, Elsewhere, BadAddress, BadEdac, BadFram, BadSums, BadDiagnostics, BadBuffers, BadCount, BadLimit}
+use Rattle.answer.specs.declared.Answer.the-variants.{Taken, Framing, Runt, Oversize, BadCrc, Elsewhere, BadStrap, BadEdac, BadFram, BadSums, BadDiagnostics, BadBuffers, BadCount, BadPort, BadLimit}
 use Rattle.answer.specs.Answers.{numberOf, sentOf}
 use Rattle.judging.specs.declared.Unit.{Unit}
 use Rattle.judging.specs.declared.Lengths.{Lengths}
 use Rattle.judging.specs.declared.Verdict.{Verdict}
 use Rattle.judging.specs.declared.fitting.Fit.{Fit}
 use Rattle.judging.specs.declared.fitting.Fit.the-variants.{Fits, Unfit}
-use Rattle.judging.specs.Fitting.{forbidden, framFits, sumsFit, framsAsSetUp, limitFit, countFit, largestCount, lengthsFit, setUpFit, stepFit}
-use Rattle.judging.specs.Judging.{firstCount, largestMessage, soundOf, runOf, verdictOf, withReceiver, receivedOf, unless, judgeOf}
+use Rattle.judging.specs.Fitting.{lastStrap, framFits, sumsFit, framsAsSetUp, tooShort, limitFit, recordFit, largestCount, lengthsFit, setUpFit, stepFit}
+use Rattle.judging.specs.Judging.{largestMessage, soundOf, commandOn, runOf, verdictOf, withPorts, receivedOf, amongBoth, unless, judgeOf}
 use Rattle.command.specs.Command.{isLocking}
 use Rattle.replying.specs.Replies.{codeOf}
-use Rattle.unit.specs.World.{World, lengthsOf, Outcome, outcome, withMessage, withDiagnostics}
-use Rattle.unit.specs.Steps.{orderedOf, commandedOf, servedOf, stepOf}
+use Rattle.commanding.specs.World.{World, messageOf, lengthsOf, Outcome, outcome, withMessages, withMessage, withDiagnostics}
+use Rattle.commanding.specs.Commanded.{orderedOf, commandedOf}
+use Rattle.unit.specs.Steps.{servedOf, stepOf}
 use Rattle.demands.specs.Calls.{comesTo}
 use Rattle.demands.specs.Locking.{locksBy, locks}
 use Rattle.demands.specs.Leaving.{SetUpRefusal}
 
 -- ---- a call that is not refused
 
--- a byte taken, a message for another, a dropped run with its number and its diagnostic, and a command with the control that the message buffer has
--- and data of legal length; and of each whether it locks bootloader FRAM
-pub record Each (P : Bool → Outcome → Type 0) (u : Unit) (w : World) : Type 0 where
+-- a byte taken, a message that is not heard here, a dropped run with its number and its diagnostic, and a command with the address and the control that
+-- the message buffer of the byte's port has, heard there, with data of legal length; and of each whether it locks bootloader FRAM
+pub record Each (P : Bool → Outcome → Type 0) (u : Unit) (side : Side) (sending : Sending) (w : World) : Type 0 where
   pub taken : P false (outcome u Taken w)
   pub elsewhere : P false (outcome u Elsewhere w)
   pub dropped : (answer : Answer) (which : ℕ) → numberOf answer ≡ 5 + which → which < 4 → sentOf answer ≡ 0
-      → P false (outcome u answer (withDiagnostics w (countedUp (w .diagnostics) (firstCount + which))))
-  pub commanded : (destination source control : ℕ) (field : List ℕ) → control ≡ getD (w .buffers .message) 2 0 → length field ≤ u .limit
-      → P (isLocking (codeOf control) (u .mode) field) (orderedOf u destination source control field w)
+      → P false (outcome u answer (withDiagnostics w (countedUp (w .diagnostics) (firstCount side + which))))
+  pub commanded : (telemetry : Side) (destination source control : ℕ) (field : List ℕ) → destination ≡ getD (messageOf side w) 0 0 → control ≡ getD (messageOf side w) 2 0
+      → answeredOn (u .strap) side destination ≡ On telemetry → length field ≤ u .limit
+      → P (isLocking (codeOf control) (u .mode) field) (orderedOf u telemetry (isSending telemetry sending) destination source control field w)
 
-module _ (P : Bool → Outcome → Type 0) (u : Unit) (w : World) (each : Each P u w) where
+module _ (P : Bool → Outcome → Type 0) (u : Unit) (side : Side) (sending : Sending) (w : World) (each : Each P u side sending w) where
   abbrev Served : Verdict → Type 0
-  Served v = P (locksBy u v (w .buffers .message)) (servedOf u v w)
+  Served v = P (locksBy u v (messageOf side w)) (servedOf u v sending (messageOf side w) w)
 
-  of-any-run : (count : ℕ) → Served (runOf (largestMessage (u .limit)) (u .address) count (w .buffers .message))
-  unfolding servedOf runOf commandedOf
+  of-any-message : (count : ℕ) → count ≤ largestMessage (u .limit) → (a : Answered) → answeredOn (u .strap) side (getD (messageOf side w) 0 0) ≡ a → Served (commandOn a count)
+  unfolding servedOf commandedOf
+  of-any-message count within (On telemetry) is =
+      let short = part (count - 5) (drop 3 (messageOf side w)) in
+      each .commanded telemetry _ _ _ (stretch 3 (count - 5) (messageOf side w)) refl refl is (omega (arith, short, within))
+  of-any-message count within Nowhere is = each .elsewhere
+
+  of-any-run : (count : ℕ) → Served (runOf (largestMessage (u .limit)) (u .strap) side count (messageOf side w))
+  unfolding servedOf runOf
   of-any-run count =
       either-way Served (ltb count shortestMessage) _ _ (λ _. each .dropped Runt 1 refl (omega arith) refl)
       (λ _. either-way Served (ltb (largestMessage (u .limit)) count) _ _ (λ _. each .dropped Oversize 2 refl (omega arith) refl)
-      (λ within. either-way Served (soundOf count (w .buffers .message)) _ _
-      (λ _. either-way Served (eqb (getD (w .buffers .message) 0 0) (u .address)) _ _
-      (λ _. each .commanded _ _ _ (stretch 3 (count - 5) (w .buffers .message)) refl (short (ltb-false (largestMessage (u .limit)) count within)))
-      (λ _. each .elsewhere))
+      (λ within. either-way Served (soundOf count (messageOf side w)) _ _
+      (λ _. of-any-message count (ltb-false (largestMessage (u .limit)) count within) (answeredOn (u .strap) side (getD (messageOf side w) 0 0)) refl)
       (λ _. each .dropped BadCrc 3 refl (omega arith) refl)))
-    where
-      short : count ≤ largestMessage (u .limit) → length (stretch 3 (count - 5) (w .buffers .message)) ≤ u .limit
-      short within = let h = part (count - 5) (drop 3 (w .buffers .message)) in omega arith
 
   pub of-anything-heard : (h : Heard)
-      → P (locksBy u (verdictOf (largestMessage (u .limit)) (u .address) h (w .buffers .message)) (w .buffers .message)) (comesTo u h w)
+      → P (locksBy u (verdictOf (largestMessage (u .limit)) (u .strap) side h (messageOf side w)) (messageOf side w)) (comesTo u side h sending w)
   unfolding servedOf verdictOf
   of-anything-heard heard.Taken = each .taken
   of-anything-heard heard.Empty = each .taken
@@ -75,64 +85,91 @@ module _ (P : Bool → Outcome → Type 0) (u : Unit) (w : World) (each : Each P
 
 -- ---- any call
 
-pub of-any-call : (P : Bool → Outcome → Type 0) (u : Unit) (byte : ℕ) (w : World)
-    → ((answer : Answer) → stepFit u (lengthsOf w) ≡ Unfit answer → P false (outcome u answer w))
-    → (stepFit u (lengthsOf w) ≡ Fits
-    → let got = receiveOf (largestMessage (u .limit)) (u .receiver) byte (w .buffers .message) in
-    Each P (withReceiver u (got .receiver)) (withMessage w (got .message)))
-    → P (locks u byte w) (stepOf u byte w)
+-- the message buffer that was put there, and one put back where it was
+pub put-there : {A : Type 0} (side : Side) (two : Both A) (a : A) → ofSide side (put side two a) ≡ a
+put-there Zero two a = refl
+put-there One two a = refl
+
+pub put-back : {A : Type 0} (side : Side) (two : Both A) → put side two (ofSide side two) ≡ two
+put-back Zero two = refl
+put-back One two = refl
+
+-- what the byte leaves of its port and its message buffer
+abbrev pub heardOn : Unit → ℕ → ℕ → World → AfterByte
+heardOn u number byte w = hearOf (largestMessage (u .limit)) (portOf (sideOf number) (u .ports)) byte (messageOf (sideOf number) w)
+
+-- and the unit and what is lent, once it is received
+abbrev pub unitHeard : Unit → ℕ → ℕ → World → Unit
+unitHeard u number byte w = withPorts u (withPort (sideOf number) (u .ports) (heardOn u number byte w .port))
+
+abbrev pub worldHeard : Unit → ℕ → ℕ → World → World
+worldHeard u number byte w = withMessage (sideOf number) w (heardOn u number byte w .message)
+
+pub of-any-call : (P : Bool → Outcome → Type 0) (u : Unit) (number byte : ℕ) (sending : Sending) (w : World)
+    → ((answer : Answer) → stepFit u number (lengthsOf w) ≡ Unfit answer → P false (outcome u answer w))
+    → (stepFit u number (lengthsOf w) ≡ Fits → Each P (unitHeard u number byte w) (sideOf number) sending (worldHeard u number byte w))
+    → P (locks u number byte w) (stepOf u number byte sending w)
 unfolding stepOf locks judgeOf receivedOf servedOf
-of-any-call P u byte w refused served = apart (stepFit u (lengthsOf w)) refl
+of-any-call P u number byte sending w refused served = apart (stepFit u number (lengthsOf w)) refl
   where
-    apart : (f : Fit) → stepFit u (lengthsOf w) ≡ f
-        → let j = unless f u (w .buffers .message) (receivedOf u byte (w .buffers .message)) in
-        P (locksBy (j .unit) (j .verdict) (j .message)) (servedOf (j .unit) (j .verdict) (withMessage w (j .message)))
+    apart : (f : Fit) → stepFit u number (lengthsOf w) ≡ f
+        → let side = sideOf number in
+        let j = unless f u (w .buffers .messages) (amongBoth side (w .buffers .messages) (receivedOf u side byte (messageOf side w))) in
+        P (locksBy (j .unit) (j .verdict) (ofSide side (j .message))) (servedOf (j .unit) (j .verdict) sending (ofSide side (j .message)) (withMessages w (j .message)))
     apart (Unfit answer) e = refused answer e
     apart Fits e =
-        let got = receiveOf (largestMessage (u .limit)) (u .receiver) byte (w .buffers .message) in
-        of-anything-heard P (withReceiver u (got .receiver)) (withMessage w (got .message)) (served e) (got .heard)
+        let side = sideOf number in
+        let got = heardOn u number byte w in
+        let v = unitHeard u number byte w in
+        let lent = worldHeard u number byte w in
+        subst (λ (m : List ℕ). let verdict = verdictOf (largestMessage (u .limit)) (u .strap) side (got .heard) m in P (locksBy v verdict (messageOf side lent)) (servedOf v verdict sending (messageOf side lent) lent))
+        (put-there side (w .buffers .messages) (got .message)) (of-anything-heard P v side sending lent (served e) (got .heard))
 
 -- ---- the number of a refusal
 
 -- what holds of each refusal by a length and of what comes after holds of all
-of-any-length : (P : Fit → Type 0) (address : ℕ) (fits : Bool) (l : Lengths) (next : Fit)
-    → ((answer : Answer) → 20 ≤ numberOf answer → numberOf answer ≤ 25 → P (Unfit answer)) → P next → P (lengthsFit address fits l next)
+of-any-length : (P : Fit → Type 0) (strap : ℕ) (fits : Bool) (l : Lengths) (next : Fit)
+    → ((answer : Answer) → 20 ≤ numberOf answer → numberOf answer ≤ 25 → P (Unfit answer)) → P next → P (lengthsFit strap fits l next)
 unfolding lengthsFit
-of-any-length P address fits l next unfit h =
-    either-way P (forbidden address) _ _ (λ _. unfit BadAddress (omega arith) (omega arith))
+of-any-length P strap fits l next unfit h =
+    either-way P (ltb lastStrap strap) _ _ (λ _. unfit BadStrap (omega arith) (omega arith))
     (λ _. either-way P (eqb (l .edac) edacSize) _ _
     (λ _. either-way P fits _ _
     (λ _. either-way P (sumsFit l) _ _
     (λ _. either-way P (eqb (l .diagnostics) channels) _ _
-    (λ _. either-way P (ltb (l .message) messageSize || ltb (l .reply) replySize) _ _ (λ _. unfit BadBuffers (omega arith) (omega arith)) (λ _. h))
+    (λ _. either-way P (tooShort (l .message0) (l .reply0) || tooShort (l .message1) (l .reply1)) _ _ (λ _. unfit BadBuffers (omega arith) (omega arith)) (λ _. h))
     (λ _. unfit BadDiagnostics (omega arith) (omega arith)))
     (λ _. unfit BadSums (omega arith) (omega arith)))
     (λ _. unfit BadFram (omega arith) (omega arith)))
     (λ _. unfit BadEdac (omega arith) (omega arith)))
 
--- of a byte 20 or more
+-- of a byte 20 or more, and it sends nothing
 abbrev High : Fit → Type 0
 High Fits = 0 ≤ 0
 High (Unfit answer) = 20 ≤ numberOf answer
 
-pub a-refused-step-has-its-number : (u : Unit) (l : Lengths) (answer : Answer) → stepFit u l ≡ Unfit answer → 20 ≤ numberOf answer
+pub a-refused-step-has-its-number : (u : Unit) (number : ℕ) (l : Lengths) (answer : Answer) → stepFit u number l ≡ Unfit answer → 20 ≤ numberOf answer
 unfolding stepFit
-a-refused-step-has-its-number u l answer e =
+a-refused-step-has-its-number u number l answer e =
     subst High e
-    (of-any-length High (u .address) (framsAsSetUp u l) l (countFit (u .receiver .count) (limitFit (u .limit))) (λ answer low high. low)
-    (either-way High (leb (u .receiver .count) largestCount) (limitFit (u .limit)) (Unfit BadCount)
-    (λ _. either-way High (isLimit (u .limit)) Fits (Unfit BadLimit) (λ _. omega arith) (λ _. omega arith)) (λ _. omega arith)))
+    (of-any-length High (u .strap) (framsAsSetUp u l) l (recordFit u number) (λ answer low high. low)
+    (either-way High (leb (countOf (u .ports .port0)) largestCount) _ (Unfit BadCount)
+    (λ _. either-way High (leb (countOf (u .ports .port1)) largestCount) _ (Unfit BadCount)
+    (λ _. either-way High (leb number 1) (limitFit (u .limit)) (Unfit BadPort)
+    (λ _. either-way High (isLimit (u .limit)) Fits (Unfit BadLimit) (λ _. omega arith) (λ _. omega arith)) (λ _. omega arith))
+    (λ _. omega arith))
+    (λ _. omega arith)))
 
 -- of set-up 20 to 25, or 29
 abbrev Refuses : ℕ → Fit → Type 0
 Refuses limit Fits = 0 ≤ 0
 Refuses limit (Unfit answer) = SetUpRefusal limit (numberOf answer)
 
-pub a-refused-set-up-has-its-number : (address limit : ℕ) (l : Lengths) (answer : Answer) → setUpFit address limit l ≡ Unfit answer → SetUpRefusal limit (numberOf answer)
+pub a-refused-set-up-has-its-number : (strap limit : ℕ) (l : Lengths) (answer : Answer) → setUpFit strap limit l ≡ Unfit answer → SetUpRefusal limit (numberOf answer)
 unfolding setUpFit
-a-refused-set-up-has-its-number address limit l answer e =
+a-refused-set-up-has-its-number strap limit l answer e =
     subst (Refuses limit) e
-    (of-any-length (Refuses limit) address (framFits (l .bootloader) && framFits (l .fram)) l (limitFit limit) (λ answer low high. inl (low, high))
+    (of-any-length (Refuses limit) strap (framFits (l .bootloader) && framFits (l .fram)) l (limitFit limit) (λ answer low high. inl (low, high))
     (either-way (Refuses limit) (isLimit limit) Fits (Unfit BadLimit) (λ _. omega arith) (λ none. inr (refl, none))))
 
 pub a-refused-set-up-is-no-0 : (limit number : ℕ) → SetUpRefusal limit number → number ≡ 0 → ⊥

@@ -9,9 +9,8 @@ use borrow.Author.Tests.{le-leb, eq-eqb, eqb-true, le-ltb}
 use lib.Dec.{leb, ltb, eqb}
 use lib.ListN.{length, drop, length-drop}
 use Rattle.crc.specs.Sum.{sumOf}
-use Rattle.line.proofs.Bounds.{the-count-never-passes-one-above-the-largest}
-use Rattle.line.specs.Receiver.{opened, receiveOf}
-use Rattle.line.specs.Packing.{packedOf, messageSize, replySize}
+use Rattle.line.specs.Framing.{fend}
+use Rattle.line.specs.Packing.{bodyOf, packedOf, messageSize, replySize}
 use Rattle.field.proofs.Words.{four-bytes}
 use Rattle.field.specs.Fields.{word32At, bytes16, bytes32}
 use Rattle.memory.specs.Bytes.{stretch}
@@ -42,21 +41,27 @@ use Rattle.command.specs.Init.{initOf}
 use Rattle.command.specs.Diagnostic.{diagnosticOf}
 use Rattle.command.specs.Command.{commandOf}
 use Rattle.command.proofs.Codes.{of-any-command, in-either-mode}
+use Rattle.ports.specs.declared.Side.{Side}
+use Rattle.ports.specs.declared.Side.the-variants.{Zero, One}
+use Rattle.ports.specs.declared.Sending.{Sending}
+use Rattle.ports.specs.Ports.{bothFresh, portOf, countOf, isSending}
 use Rattle.judging.specs.declared.Unit.{Unit}
 use Rattle.judging.specs.declared.fitting.Fit.the-variants.{Fits}
-use Rattle.judging.specs.Fitting.{framFits, framAsSetUp, limitFit, lengthsFit, setUpFit}
-use Rattle.judging.specs.Judging.{largestMessage, withReceiver}
-use Rattle.judging.proofs.Serving.{both, Passed, all-passed, a-served-set-up-fits, a-served-set-up-is-limited}
-use Rattle.replying.specs.Replies.{codeOf, polls, replyMessage}
-use Rattle.unit.specs.World.{World, lengthsOf, Outcome, withFrams, withMessage, heldOf}
-use Rattle.unit.specs.Steps.{setUpOf, answered, stepOf}
+use Rattle.judging.specs.Fitting.{framFits, framAsSetUp, framsAsSetUp, limitFit, lengthsFit, setUpFit}
+use Rattle.judging.specs.Judging.{largestMessage}
+use Rattle.judging.proofs.Serving.{both-hold, Passed, all-passed, a-served-set-up-fits, a-served-set-up-is-limited}
+use Rattle.replying.specs.Replies.{codeOf, sealed, replyMessage}
+use Rattle.commanding.specs.World.{World, messageOf, replyOf, lengthsOf, Outcome, withFrams, heldOf}
+use Rattle.commanding.specs.Commanded.{answered}
+use Rattle.unit.specs.Steps.{setUpOf, stepOf}
 use Rattle.unit.proofs.Serving.{set-up-served}
-use Rattle.demands.specs.Calls.{Call, fedOf, delivering, Suits, Serves, Lending, its-memory, another, Own, own, ownOf, calledOf, Right, Inside}
-use Rattle.demands.specs.Orders.{Sends, withItsMessage, leftBy, sentBy, cameTo}
-use Rattle.demands.proofs.Cases.{of-any-call}
+use Rattle.demands.specs.Calls.{Call, lentTo, fedOf, delivering, openedOn, lentLengths, Suits, Serves, Lending, its-memory, another, Own, own, ownOf, calledOf, Right, Inside}
+use Rattle.demands.specs.Orders.{Way, met, Sends, withItsMessage, leftBy, sentBy, replies, cameTo}
+use Rattle.demands.proofs.Cases.{unitHeard, worldHeard, of-any-call}
 use Rattle.demands.proofs.DemandOne.{what-every-answer-leaves}
 use Rattle.demands.proofs.DemandTwo.{above-every-message}
 use Rattle.demands.proofs.Ranges.{ends-by, a-range-inside-names-its-FRAM}
+use Rattle.demands.proofs.Along.{a-call-keeps-the-counts-low}
 use Rattle.demands.proofs.Orders.{no-longer, a-sent-command-is-carried-out, a-command-that-is-done-sends-its-data}
 
 -- what is kept from call to call: right sums, and the memory's length
@@ -164,99 +169,94 @@ module _ (Q : Frams → Type 0) where
 
   -- ---- and so does one call
 
-  answered-keeps : (u : Unit) (destination source control : ℕ) (field : List ℕ) (o : Ending Held) (w : World) → Q (w .frams)
-      → Keeps (λ h. Q (h .frams)) o → Q (answered u destination source control field o w .world .frams)
+  answered-keeps : (u : Unit) (telemetry : Side) (sending : Bool) (destination source control : ℕ) (field : List ℕ) (o : Ending Held) (w : World) → Q (w .frams)
+      → Keeps (λ h. Q (h .frams)) o → Q (answered u telemetry sending destination source control field o w .world .frams)
   unfolding answered
-  answered-keeps u destination source control field (done reply after) w good k = k
-  answered-keeps u destination source control field refused w good k = good
-  answered-keeps u destination source control field unfitted w good k = good
+  answered-keeps u telemetry sending destination source control field (done reply after) w good k = k
+  answered-keeps u telemetry sending destination source control field refused w good k = good
+  answered-keeps u telemetry sending destination source control field unfitted w good k = good
 
-  pub a-call-keeps-what-a-POKE-keeps : (u : Unit) (byte : ℕ) (w : World) → Q (w .frams)
-      → ((room : ℕ) (field : List ℕ) → Keeps Q (pokeByAddress room (u .locked) (w .frams) field)) → Q (stepOf u byte w .world .frams)
-  a-call-keeps-what-a-POKE-keeps u byte w good pokes =
-      of-any-call (λ _ (o : Outcome). Q (o .world .frams)) u byte w (λ answer e. good)
+  pub a-call-keeps-what-a-POKE-keeps : (u : Unit) (number byte : ℕ) (sending : Sending) (w : World) → Q (w .frams)
+      → ((room : ℕ) (field : List ℕ) → Keeps Q (pokeByAddress room (u .locked) (w .frams) field)) → Q (stepOf u number byte sending w .world .frams)
+  a-call-keeps-what-a-POKE-keeps u number byte sending w good pokes =
+      of-any-call (λ _ (o : Outcome). Q (o .world .frams)) u number byte sending w (λ answer e. good)
       (λ _.
-      let got = receiveOf (largestMessage (u .limit)) (u .receiver) byte (w .buffers .message) in
-      let next = withReceiver u (got .receiver) in
-      let lent = withMessage w (got .message) in
+      let next = unitHeard u number byte w in
+      let lent = worldHeard u number byte w in
       record {
         taken = good;
         elsewhere = good;
         dropped = λ answer which number four silent. good;
-        commanded = λ destination source control field told short.
-            answered-keeps next destination source control field (commandOf (u .limit) (codeOf control) (heldOf next lent) field) lent good
+        commanded = λ telemetry destination source control field to told is short.
+            answered-keeps next telemetry (isSending telemetry sending) destination source control field (commandOf (u .limit) (codeOf control) (heldOf next lent) field) lent good
             (command-keeps (u .limit) (codeOf control) (heldOf next lent) field good (pokes (u .limit) field));
       })
 
-step-keeps : (bootloader's user's : ℕ) (u : Unit) (byte : ℕ) (w : World) → GoodBoth bootloader's user's (w .frams)
-    → GoodBoth bootloader's user's (stepOf u byte w .world .frams)
-step-keeps bootloader's user's u byte w good =
-    a-call-keeps-what-a-POKE-keeps (GoodBoth bootloader's user's) u byte w good
+step-keeps : (bootloader's user's : ℕ) (u : Unit) (number byte : ℕ) (sending : Sending) (w : World) → GoodBoth bootloader's user's (w .frams)
+    → GoodBoth bootloader's user's (stepOf u number byte sending w .world .frams)
+step-keeps bootloader's user's u number byte sending w good =
+    a-call-keeps-what-a-POKE-keeps (GoodBoth bootloader's user's) u number byte sending w good
     (λ room field. poke-keeps-both bootloader's user's room (u .locked) (w .frams) field good)
 
-step-low : (u : Unit) (byte : ℕ) (w : World) → u .receiver .count ≤ largestMessage (u .limit) + 1 → stepOf u byte w .unit .receiver .count ≤ largestMessage (u .limit) + 1
-unfolding answered
-step-low u byte w low =
-    let still = the-count-never-passes-one-above-the-largest (largestMessage (u .limit)) (byte ∷ []) (u .receiver) (w .buffers .message) low in
-    of-any-call (λ _ (o : Outcome). o .unit .receiver .count ≤ largestMessage (u .limit) + 1) u byte w (λ answer e. low)
-    (λ _. record { taken = still; elsewhere = still; dropped = λ answer which number four silent. still; commanded = λ destination source control field told short. still })
-
 -- what a unit has from its set-up on
-record Goes (address limit bootloader's user's : ℕ) (s : Own) : Type 0 where
+record Goes (strap limit bootloader's user's : ℕ) (s : Own) : Type 0 where
   good : GoodBoth bootloader's user's (s .frams)
-  same-address : s .unit .address ≡ address
+  same-strap : s .unit .strap ≡ strap
   same-limit : s .unit .limit ≡ limit
   same-bootloader : s .unit .«bootloader_len» ≡ bootloader's
   same-user : s .unit .«fram_len» ≡ user's
-  low : s .unit .receiver .count ≤ largestMessage limit + 1
+  low : (side : Side) → countOf (portOf side (s .unit .ports)) ≤ largestMessage limit + 1
 
-module _ (address limit bootloader's user's : ℕ) where
-  goes-on : (s : Own) (byte : ℕ) (w : World) (now : Frams) → Goes address limit bootloader's user's s → GoodBoth bootloader's user's now
-      → Goes address limit bootloader's user's (own (stepOf (s .unit) byte w .unit) now)
-  goes-on s byte w now g good =
-      let leaves = what-every-answer-leaves (s .unit) byte w in
+module _ (strap limit bootloader's user's : ℕ) where
+  goes-on : (s : Own) (number byte : ℕ) (sending : Sending) (w : World) (now : Frams) → Goes strap limit bootloader's user's s → GoodBoth bootloader's user's now
+      → Goes strap limit bootloader's user's (own (stepOf (s .unit) number byte sending w .unit) now)
+  goes-on s number byte sending w now g good =
+      let leaves = what-every-answer-leaves (s .unit) number byte sending w in
       record {
         good = good;
-        same-address = leaves .address ∙ g .same-address;
+        same-strap = leaves .strap ∙ g .same-strap;
         same-limit = leaves .limit ∙ g .same-limit;
         same-bootloader = leaves .bootloader-length ∙ g .same-bootloader;
         same-user = leaves .fram-length ∙ g .same-user;
-        low =
-            subst (λ (n : ℕ). stepOf (s .unit) byte w .unit .receiver .count ≤ largestMessage n + 1) (g .same-limit)
-            (step-low (s .unit) byte w (subst (λ (n : ℕ). s .unit .receiver .count ≤ largestMessage n + 1) (sym (g .same-limit)) (g .low)));
+        low = a-call-keeps-the-counts-low (s .unit) number byte sending w (largestMessage limit + 1) (omega (arith, g .same-limit)) (g .low);
       }
 
   -- and any calls
-  calls-keep : (calls : List Lending) (s : Own) → Goes address limit bootloader's user's s → Goes address limit bootloader's user's (calledOf s calls)
+  calls-keep : (calls : List Lending) (s : Own) → Goes strap limit bootloader's user's s → Goes strap limit bootloader's user's (calledOf s calls)
   calls-keep [] s g = g
   calls-keep (its-memory c ∷ calls) s g =
-      let o = stepOf (s .unit) (c .byte) (withFrams (c .lent) (s .frams)) in
+      let o = stepOf (s .unit) (c .port) (c .byte) (c .sending) (withFrams (c .lent) (s .frams)) in
       calls-keep calls (ownOf o)
-      (goes-on s (c .byte) (withFrams (c .lent) (s .frams)) (o .world .frams) g (step-keeps bootloader's user's (s .unit) (c .byte) (withFrams (c .lent) (s .frams)) (g .good)))
+      (goes-on s (c .port) (c .byte) (c .sending) (withFrams (c .lent) (s .frams)) (o .world .frams) g
+      (step-keeps bootloader's user's (s .unit) (c .port) (c .byte) (c .sending) (withFrams (c .lent) (s .frams)) (g .good)))
   calls-keep (another c ∷ calls) s g =
-      calls-keep calls (own (stepOf (s .unit) (c .byte) (c .lent) .unit) (s .frams)) (goes-on s (c .byte) (c .lent) (s .frams) g (g .good))
+      calls-keep calls (own (stepOf (s .unit) (c .port) (c .byte) (c .sending) (c .lent) .unit) (s .frams)) (goes-on s (c .port) (c .byte) (c .sending) (c .lent) (s .frams) g (g .good))
 
 -- set-up makes all sums right
-set-up-goes : (address limit : ℕ) (locked : Bool) (w : World) → setUpFit address limit (lengthsOf w) ≡ Fits
-    → Goes address limit (length (w .frams .bootloader .fram)) (length (w .frams .user .fram)) (ownOf (setUpOf address limit locked w))
-set-up-goes address limit locked w e =
-    subst (λ o. Goes address limit (length (w .frams .bootloader .fram)) (length (w .frams .user .fram)) (ownOf o))
-    (set-up-served address limit locked w (freshSums (w .frams .bootloader .fram)) (freshSums (w .frams .user .fram)) (statusWritten locked (w .diagnostics)) e refl refl refl)
-    (record { good = ((refl, refl), (refl, refl)); same-address = refl; same-limit = refl; same-bootloader = refl; same-user = refl; low = omega arith })
+set-up-goes : (strap limit : ℕ) (locked : Bool) (w : World) → setUpFit strap limit (lengthsOf w) ≡ Fits
+    → Goes strap limit (length (w .frams .bootloader .fram)) (length (w .frams .user .fram)) (ownOf (setUpOf strap limit locked w))
+set-up-goes strap limit locked w e =
+    subst (λ o. Goes strap limit (length (w .frams .bootloader .fram)) (length (w .frams .user .fram)) (ownOf o))
+    (set-up-served strap limit locked w bothFresh (freshSums (w .frams .bootloader .fram)) (freshSums (w .frams .user .fram)) (statusWritten locked (w .diagnostics)) e refl refl refl refl)
+    (record { good = ((refl, refl), (refl, refl)); same-strap = refl; same-limit = refl; same-bootloader = refl; same-user = refl; low = fresh-low })
+  where
+    fresh-low : (side : Side) → countOf (portOf side bothFresh) ≤ largestMessage limit + 1
+    fresh-low Zero = omega arith
+    fresh-low One = omega arith
 
--- Demand 3, on the sums. Take a unit that was set up, and let nothing but the unit change its FRAMs, sums or record. After any calls,
+-- Demand 3, on the sums. Take a unit that was set up, and let nothing but the unit change its FRAMs, sums or record. After any calls on either port,
 -- whatever bytes and whatever else they lend, of any length, refused or not, each block's kept sum is the CRC of that block as it now
 -- stands, in bootloader FRAM and in user FRAM.
-pub after-any-calls-the-sums-are-right : (address limit : ℕ) (locked : Bool) (w : World) → setUpFit address limit (lengthsOf w) ≡ Fits → (calls : List Lending)
-    → (which : Which) → Right (framOf which (calledOf (ownOf (setUpOf address limit locked w)) calls .frams))
-after-any-calls-the-sums-are-right address limit locked w e calls which = by which
+pub after-any-calls-the-sums-are-right : (strap limit : ℕ) (locked : Bool) (w : World) → setUpFit strap limit (lengthsOf w) ≡ Fits → (calls : List Lending)
+    → (which : Which) → Right (framOf which (calledOf (ownOf (setUpOf strap limit locked w)) calls .frams))
+after-any-calls-the-sums-are-right strap limit locked w e calls which = by which
   where
-    goes : Goes address limit (length (w .frams .bootloader .fram)) (length (w .frams .user .fram)) (calledOf (ownOf (setUpOf address limit locked w)) calls)
+    goes : Goes strap limit (length (w .frams .bootloader .fram)) (length (w .frams .user .fram)) (calledOf (ownOf (setUpOf strap limit locked w)) calls)
     goes =
-        calls-keep address limit (length (w .frams .bootloader .fram)) (length (w .frams .user .fram)) calls (ownOf (setUpOf address limit locked w))
-        (set-up-goes address limit locked w e)
+        calls-keep strap limit (length (w .frams .bootloader .fram)) (length (w .frams .user .fram)) calls (ownOf (setUpOf strap limit locked w))
+        (set-up-goes strap limit locked w e)
 
-    by : (x : Which) → Right (framOf x (calledOf (ownOf (setUpOf address limit locked w)) calls .frams))
+    by : (x : Which) → Right (framOf x (calledOf (ownOf (setUpOf strap limit locked w)) calls .frams))
     by ofBootloader = goes .good .0 .0
     by ofUser = goes .good .1 .0
 
@@ -276,7 +276,7 @@ placed start size first last starts forward ends =
     simp (le-leb start first starts, le-leb (first + rangeSize first last) (start + size) (omega arith))
 
 in-blocks : (size : ℕ) → framFits size ≡ true → size % 256 ≡ 0
-in-blocks size right = eqb-true (size % 256) 0 (both (leb 256 size && leb size 262144) (eqb (size % 256) 0) right .1)
+in-blocks size right = eqb-true (size % 256) 0 (both-hold (leb 256 size && leb size 262144) (eqb (size % 256) 0) right .1)
 
 both-yes : {a b : Bool} → a ≡ true → b ≡ true → (a && b) ≡ true
 both-yes {a} {b} p q = ap₂ _&&_ p q
@@ -330,21 +330,21 @@ module _ (which : Which) (now : Frams) (small : length (framOf which now .fram) 
 
 -- ---- after any calls on a unit that was set up
 
-module _ (address limit : ℕ) (locked : Bool) (w : World) (e : setUpFit address limit (lengthsOf w) ≡ Fits) (calls : List Lending) where
+module _ (strap limit : ℕ) (locked : Bool) (w : World) (e : setUpFit strap limit (lengthsOf w) ≡ Fits) (calls : List Lending) where
   abbrev now : Own
-  now = calledOf (ownOf (setUpOf address limit locked w)) calls
+  now = calledOf (ownOf (setUpOf strap limit locked w)) calls
 
-  goes : Goes address limit (length (w .frams .bootloader .fram)) (length (w .frams .user .fram)) now
+  goes : Goes strap limit (length (w .frams .bootloader .fram)) (length (w .frams .user .fram)) now
   goes =
-      calls-keep address limit (length (w .frams .bootloader .fram)) (length (w .frams .user .fram)) calls (ownOf (setUpOf address limit locked w))
-      (set-up-goes address limit locked w e)
+      calls-keep strap limit (length (w .frams .bootloader .fram)) (length (w .frams .user .fram)) calls (ownOf (setUpOf strap limit locked w))
+      (set-up-goes strap limit locked w e)
 
-  passed : Passed address (framFits (length (w .frams .bootloader .fram)) && framFits (length (w .frams .user .fram))) (lengthsOf w) (limitFit limit)
+  passed : Passed strap (framFits (length (w .frams .bootloader .fram)) && framFits (length (w .frams .user .fram))) (lengthsOf w) (limitFit limit)
   unfolding setUpFit
-  passed = all-passed address (framFits (length (w .frams .bootloader .fram)) && framFits (length (w .frams .user .fram))) (lengthsOf w) (limitFit limit) e
+  passed = all-passed strap (framFits (length (w .frams .bootloader .fram)) && framFits (length (w .frams .user .fram))) (lengthsOf w) (limitFit limit) e
 
   fits : (framFits (length (w .frams .bootloader .fram)) ≡ true) × (framFits (length (w .frams .user .fram)) ≡ true)
-  fits = both (framFits (length (w .frams .bootloader .fram))) (framFits (length (w .frams .user .fram))) (passed .fram-tested)
+  fits = both-hold (framFits (length (w .frams .bootloader .fram))) (framFits (length (w .frams .user .fram))) (passed .fram-tested)
 
   -- Demand 3, on the CRC answered. A CRC command (0x06) with any range inside one of the FRAMs, in either mode, locked or not, with any EDAC memory
   -- and any diagnostics, is done, changes nothing and answers the CRC of the bytes now stored there, worked out afresh.
@@ -354,19 +354,20 @@ module _ (address limit : ℕ) (locked : Bool) (w : World) (e : setUpFit address
       ≡ done ((bytes32 first ++ bytes32 last) ++ bytes16 (sumOf (stretch (first - firstOf which) (last - first + 1) (framOf which (now .frams) .fram)))) here
   the-CRC-answered-is-fresh ofBootloader edac diagnostics first last range =
       the-command-answers-it ofBootloader (now .frams) (subst (λ n. n ≤ 262144) (sym (goes .good .0 .1)) (no-longer (length (w .frams .bootloader .fram)) (fits .0))) first last range
-      (length (w .frams .bootloader .sums)) (goes .good .0 .0) (goes .good .0 .1 ∙ a-served-set-up-fits address limit (lengthsOf w) e .bootloader-sums-fit) (now .unit .limit) (standing (now .unit .mode) (now .unit .locked) diagnostics) edac
+      (length (w .frams .bootloader .sums)) (goes .good .0 .0) (goes .good .0 .1 ∙ a-served-set-up-fits strap limit (lengthsOf w) e .bootloader-sums-fit) (now .unit .limit) (standing (now .unit .mode) (now .unit .locked) diagnostics) edac
   the-CRC-answered-is-fresh ofUser edac diagnostics first last range =
       the-command-answers-it ofUser (now .frams) (subst (λ n. n ≤ 262144) (sym (goes .good .1 .1)) (no-longer (length (w .frams .user .fram)) (fits .1))) first last range
-      (length (w .frams .user .sums)) (goes .good .1 .0) (goes .good .1 .1 ∙ a-served-set-up-fits address limit (lengthsOf w) e .sums-fit) (now .unit .limit) (standing (now .unit .mode) (now .unit .locked) diagnostics) edac
+      (length (w .frams .user .sums)) (goes .good .1 .0) (goes .good .1 .1 ∙ a-served-set-up-fits strap limit (lengthsOf w) e .sums-fit) (now .unit .limit) (standing (now .unit .mode) (now .unit .locked) diagnostics) edac
 
-  -- Its limit is the one that was set up, and its count never passes limit + 6 (02, T-06); so neither 26 nor 29 ever refuses it.
-  pub the-limit-stays-and-the-count-stops-above-it : (now .unit .limit ≡ limit) × (now .unit .receiver .count ≤ limit + 6)
-  the-limit-stays-and-the-count-stops-above-it = (goes .same-limit, omega (arith, goes .low))
+  -- Its limit is the one that was set up, and its counts never pass limit + 6 (02, T-06); so neither 26 nor 29 ever refuses it.
+  pub the-limit-stays-and-the-counts-stop-above-it : (now .unit .limit ≡ limit) × ((side : Side) → countOf (portOf side (now .unit .ports)) ≤ limit + 6)
+  the-limit-stays-and-the-counts-stop-above-it = (goes .same-limit, λ side. omega (arith, goes .low side))
 
   pub a-unit-that-was-set-up-serves : Serves (now .unit)
   a-unit-that-was-set-up-serves =
-      let limited = a-served-set-up-is-limited address limit (lengthsOf w) e in (
-        omega (arith, goes .low, above-every-message limit limited),
+      let limited = a-served-set-up-is-limited strap limit (lengthsOf w) e in (
+        omega (arith, goes .low Zero, above-every-message limit limited),
+        omega (arith, goes .low One, above-every-message limit limited),
         ap isLimit (goes .same-limit) ∙ limited,
       )
 
@@ -385,34 +386,62 @@ module _ (address limit : ℕ) (locked : Bool) (w : World) (e : setUpFit address
         eq-eqb (blockStart (length (lent .sums))) (length (lent .fram)) blocks,
       )
 
-  -- Such a unit goes on being served: a call that lends its FRAMs and sums, and the rest in the right lengths, is not refused.
-  pub a-unit-that-was-set-up-goes-on-being-served : (c : Call) (message : List ℕ) → length (c .lent .edac) ≡ edacSize → c .lent .frams ≡ now .frams
-      → length (c .lent .diagnostics) ≡ channels → messageSize ≤ length message → replySize ≤ length (c .lent .buffers .reply) → Suits (now .unit) (length message) c
+  -- Such a unit goes on being served: a call on port 0 or 1 that lends its FRAMs and sums, and the rest in the right lengths, is not refused.
+  pub a-unit-that-was-set-up-goes-on-being-served : (side : Side) (c : Call) (message : List ℕ) → c .port ≤ 1 → length (c .lent .edac) ≡ edacSize → c .lent .frams ≡ now .frams
+      → length (c .lent .diagnostics) ≡ channels → ((s : Side) → messageSize ≤ length (messageOf s (lentTo side message c))) → ((s : Side) → replySize ≤ length (replyOf s (c .lent)))
+      → Suits side (now .unit) (length message) c
   unfolding lengthsFit
-  a-unit-that-was-set-up-goes-on-being-served c message edac same diagnostics long room =
-      let one = lent-again (length (w .frams .bootloader .fram)) (now .unit .«bootloader_len») (now .frams .bootloader) (c .lent .frams .bootloader) (goes .good .0)
-      (ap (λ (f : Frams). f .bootloader) same) (goes .same-bootloader) (fits .0) in
-      let two = lent-again (length (w .frams .user .fram)) (now .unit .«fram_len») (now .frams .user) (c .lent .frams .user) (goes .good .1)
-      (ap (λ (f : Frams). f .user) same) (goes .same-user) (fits .1) in
-      simp (
-        goes .same-address,
-        passed .address-allowed,
-        eq-eqb (length (c .lent .edac)) edacSize edac,
-        one .0,
-        two .0,
-        one .1,
-        two .1,
-        eq-eqb (length (c .lent .diagnostics)) channels diagnostics,
-        le-ltb (length message) messageSize long,
-        le-ltb (length (c .lent .buffers .reply)) replySize room,
-      )
+  a-unit-that-was-set-up-goes-on-being-served side c message named edac same diagnostics long room = (by side long, named)
+    where
+      one : (framAsSetUp (length (c .lent .frams .bootloader .fram)) (now .unit .«bootloader_len») ≡ true)
+          × (eqb (blockStart (length (c .lent .frams .bootloader .sums))) (length (c .lent .frams .bootloader .fram)) ≡ true)
+      one =
+          lent-again (length (w .frams .bootloader .fram)) (now .unit .«bootloader_len») (now .frams .bootloader) (c .lent .frams .bootloader) (goes .good .0)
+          (ap (λ (f : Frams). f .bootloader) same) (goes .same-bootloader) (fits .0)
 
-  -- The same on the line. Let this unit be sent a CRC command, from any source, for a range inside one of the FRAMs, by calls of which each may
-  -- lend another thing, but the last lends the unit's own FRAMs and sums. All bytes are taken but the last, which does the command and
-  -- answers, with the range as it was asked, the CRC of the bytes now stored there.
-  module _ (sending : List Call) (c : Call) (message : List ℕ) (source control : ℕ) (which : Which) (first last : ℕ) (range : Inside which (now .frams) first last)
-      (sends : Sends (now .unit) message source control (bytes32 first ++ bytes32 last) sending c) (its-own : c .lent .frams ≡ now .frams)
-      (code : codeOf control ≡ 0x06) where
+      two : (framAsSetUp (length (c .lent .frams .user .fram)) (now .unit .«fram_len») ≡ true)
+          × (eqb (blockStart (length (c .lent .frams .user .sums))) (length (c .lent .frams .user .fram)) ≡ true)
+      two =
+          lent-again (length (w .frams .user .fram)) (now .unit .«fram_len») (now .frams .user) (c .lent .frams .user) (goes .good .1) (ap (λ (f : Frams). f .user) same) (goes .same-user) (fits .1)
+
+      by : (s : Side) → ((x : Side) → messageSize ≤ length (messageOf x (lentTo s message c)))
+          → lengthsFit (now .unit .strap) (framsAsSetUp (now .unit) (lentLengths s (length message) c)) (lentLengths s (length message) c) Fits ≡ Fits
+      by Zero l =
+          simp (
+            goes .same-strap,
+            passed .strap-allowed,
+            eq-eqb (length (c .lent .edac)) edacSize edac,
+            one .0,
+            two .0,
+            one .1,
+            two .1,
+            eq-eqb (length (c .lent .diagnostics)) channels diagnostics,
+            le-ltb (length message) messageSize (l Zero),
+            le-ltb (length (replyOf Zero (c .lent))) replySize (room Zero),
+            le-ltb (length (messageOf One (c .lent))) messageSize (l One),
+            le-ltb (length (replyOf One (c .lent))) replySize (room One),
+          )
+      by One l =
+          simp (
+            goes .same-strap,
+            passed .strap-allowed,
+            eq-eqb (length (c .lent .edac)) edacSize edac,
+            one .0,
+            two .0,
+            one .1,
+            two .1,
+            eq-eqb (length (c .lent .diagnostics)) channels diagnostics,
+            le-ltb (length (messageOf Zero (c .lent))) messageSize (l Zero),
+            le-ltb (length (replyOf Zero (c .lent))) replySize (room Zero),
+            le-ltb (length message) messageSize (l One),
+            le-ltb (length (replyOf One (c .lent))) replySize (room One),
+          )
+
+  -- The same on the line. Let a CRC command, from any source, for a range inside one of the FRAMs, come in on a port where its address is heard, with bytes
+  -- of the other port between its own, and let the unit that its closing call meets be this one, lent its own FRAMs and sums. All bytes are taken but the
+  -- last, which does the command and answers, with the range as it was asked, the CRC of the bytes now stored there.
+  module _ (way : Way) (same : met way ≡ now .unit) (c : Call) (source control : ℕ) (which : Which) (first last : ℕ) (range : Inside which (now .frams) first last)
+      (sends : Sends way source control (bytes32 first ++ bytes32 last) c) (its-own : c .lent .frams ≡ now .frams) (code : codeOf control ≡ 0x06) where
     abbrev asked : List ℕ
     asked = bytes32 first ++ bytes32 last
 
@@ -422,21 +451,22 @@ module _ (address limit : ℕ) (locked : Bool) (w : World) (e : setUpFit address
     abbrev here : Held
     here = held (standing (now .unit .mode) (now .unit .locked) (c .lent .diagnostics)) (c .lent .edac) (now .frams)
 
-    came : cameTo (now .unit) c control asked ≡ done answer here
+    came : cameTo (met way) c control asked ≡ done answer here
     came =
-        ap₂ (λ (f : Frams) (n : ℕ). commandOf (now .unit .limit) n (held (standing (now .unit .mode) (now .unit .locked) (c .lent .diagnostics)) (c .lent .edac) f) asked) its-own code
+        ap (λ u. cameTo u c control asked) same
+        ∙ ap₂ (λ (f : Frams) (n : ℕ). commandOf (now .unit .limit) n (held (standing (now .unit .mode) (now .unit .locked) (c .lent .diagnostics)) (c .lent .edac) f) asked) its-own code
         ∙ the-CRC-answered-is-fresh which (c .lent .edac) (c .lent .diagnostics) first last range
 
-    pub the-CRC-on-the-line-is-fresh : fedOf (now .unit) message sending c
-        ≡ delivering (length sending)
-        (answered (withReceiver (now .unit) opened) (now .unit .address) source control asked (done answer here) (withItsMessage (now .unit) message source control asked c))
+    pub the-CRC-on-the-line-is-fresh : fedOf (way .side) (way .unit) (way .message) (way .calls) c
+        ≡ delivering (length (fend ∷ bodyOf (sealed (way .destination ∷ source ∷ control ∷ asked))))
+        (answered (openedOn (way .side) (met way)) (way .telemetry) (isSending (way .telemetry) (c .sending)) (way .destination) source control asked (done answer here)
+        (withItsMessage way source control asked c))
     the-CRC-on-the-line-is-fresh =
-        a-sent-command-is-carried-out (now .unit) message source control asked sending c sends
-        ∙ ap (λ o. delivering (length sending)
-        (answered (withReceiver (now .unit) opened) (now .unit .address) source control asked o (withItsMessage (now .unit) message source control asked c))) came
+        a-sent-command-is-carried-out way source control asked c sends
+        ∙ ap (λ o. delivering (length (fend ∷ bodyOf (sealed (way .destination ∷ source ∷ control ∷ asked))))
+        (answered (openedOn (way .side) (met way)) (way .telemetry) (isSending (way .telemetry) (c .sending)) (way .destination) source control asked o
+        (withItsMessage way source control asked c))) came
 
-    -- And where poll is set, the bytes sent are the packed reply with that CRC.
-    pub the-CRC-sent-is-fresh : polls control ≡ true
-        → sentBy (leftBy (now .unit) message sending c) ≡ packedOf (replyMessage 1 (now .unit .address) source control answer)
-    the-CRC-sent-is-fresh polled =
-        a-command-that-is-done-sends-its-data (now .unit) message source control asked sending c sends polled answer here came
+    -- And where its reply leaves, the bytes sent are the packed reply with that CRC.
+    pub the-CRC-sent-is-fresh : replies way control c ≡ true → sentBy (leftBy way c) ≡ packedOf (replyMessage 1 (way .destination) source control answer)
+    the-CRC-sent-is-fresh leaves = a-command-that-is-done-sends-its-data way source control asked c sends leaves answer here came

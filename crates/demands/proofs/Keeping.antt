@@ -6,7 +6,6 @@ use Prim.Native.Nat.{ℕ, _-_}
 use native.Mathlib.Omega.{arith}
 use lib.Dec.{eqb, ltb}
 use lib.ListN.{length, drop}
-use Rattle.line.specs.Receiver.{receiveOf}
 use Rattle.field.specs.Fields.{word16At}
 use Rattle.memory.specs.Edac.{edacSize, insideEdac}
 use Rattle.read_only.specs.ReadOnly.{KeepsReadOnly}
@@ -30,12 +29,15 @@ use Rattle.judging.specs.declared.Unit.{Unit}
 use Rattle.judging.specs.declared.fitting.Fit.{Fit}
 use Rattle.judging.specs.declared.fitting.Fit.the-variants.{Fits, Unfit}
 use Rattle.judging.specs.Fitting.{setUpFit}
-use Rattle.judging.specs.Judging.{largestMessage, withReceiver}
+use Rattle.ports.specs.declared.Side.{Side}
+use Rattle.ports.specs.declared.Sending.{Sending}
+use Rattle.ports.specs.Ports.{isSending}
 use Rattle.replying.specs.Replies.{codeOf}
-use Rattle.unit.specs.World.{World, lengthsOf, Outcome, withEdac, withMessage, heldOf}
-use Rattle.unit.specs.Steps.{setUpAs, setUpOf, answered, stepOf}
+use Rattle.commanding.specs.World.{World, lengthsOf, Outcome, withEdac, heldOf}
+use Rattle.commanding.specs.Commanded.{answered}
+use Rattle.unit.specs.Steps.{setUpAs, setUpOf, stepOf}
 use Rattle.demands.specs.Keeping.{EdacCall, setting-up, stepping, storing, edacLeft}
-use Rattle.demands.proofs.Cases.{of-any-call}
+use Rattle.demands.proofs.Cases.{unitHeard, worldHeard, of-any-call}
 use Rattle.demands.proofs.DemandThree.{Keeps, keeps-inside}
 
 -- ---- one command
@@ -100,26 +102,26 @@ command-keeps room code now field =
 
 -- ---- one call
 
-answered-keeps : (u : Unit) (destination source control : ℕ) (field : List ℕ) (o : Ending Held) (w : World) → Keeps (λ h. KeepsReadOnly (w .edac) (h .edac)) o
-    → KeepsReadOnly (w .edac) (answered u destination source control field o w .world .edac)
+answered-keeps : (u : Unit) (telemetry : Side) (sending : Bool) (destination source control : ℕ) (field : List ℕ) (o : Ending Held) (w : World)
+    → Keeps (λ h. KeepsReadOnly (w .edac) (h .edac)) o
+    → KeepsReadOnly (w .edac) (answered u telemetry sending destination source control field o w .world .edac)
 unfolding answered
-answered-keeps u destination source control field (done reply after) w k = k
-answered-keeps u destination source control field refused w k = kept-at-first (w .edac)
-answered-keeps u destination source control field unfitted w k = kept-at-first (w .edac)
+answered-keeps u telemetry sending destination source control field (done reply after) w k = k
+answered-keeps u telemetry sending destination source control field refused w k = kept-at-first (w .edac)
+answered-keeps u telemetry sending destination source control field unfitted w k = kept-at-first (w .edac)
 
-pub a-step-keeps-read-only-bytes : (u : Unit) (byte : ℕ) (w : World) → KeepsReadOnly (w .edac) (stepOf u byte w .world .edac)
-a-step-keeps-read-only-bytes u byte w =
-    of-any-call (λ _ (o : Outcome). KeepsReadOnly (w .edac) (o .world .edac)) u byte w (λ answer e. kept-at-first (w .edac))
+pub a-step-keeps-read-only-bytes : (u : Unit) (number byte : ℕ) (sending : Sending) (w : World) → KeepsReadOnly (w .edac) (stepOf u number byte sending w .world .edac)
+a-step-keeps-read-only-bytes u number byte sending w =
+    of-any-call (λ _ (o : Outcome). KeepsReadOnly (w .edac) (o .world .edac)) u number byte sending w (λ answer e. kept-at-first (w .edac))
     (λ _.
-    let got = receiveOf (largestMessage (u .limit)) (u .receiver) byte (w .buffers .message) in
-    let next = withReceiver u (got .receiver) in
-    let lent = withMessage w (got .message) in
+    let next = unitHeard u number byte w in
+    let lent = worldHeard u number byte w in
     record {
       taken = kept-at-first (w .edac);
       elsewhere = kept-at-first (w .edac);
       dropped = λ answer which number four silent. kept-at-first (w .edac);
-      commanded = λ destination source control field told short.
-          answered-keeps next destination source control field (commandOf (u .limit) (codeOf control) (heldOf next lent) field) lent
+      commanded = λ telemetry destination source control field to told is short.
+          answered-keeps next telemetry (isSending telemetry sending) destination source control field (commandOf (u .limit) (codeOf control) (heldOf next lent) field) lent
           (command-keeps (u .limit) (codeOf control) (heldOf next lent) field);
     })
 
@@ -132,11 +134,11 @@ storing-keeps-read-only-bytes limit edac list =
     (λ _. kept-at-first edac)
 
 -- a set-up leaves EDAC memory as it is
-pub a-set-up-keeps-edac : (address limit : ℕ) (locked : Bool) (w : World) → setUpOf address limit locked w .world .edac ≡ w .edac
+pub a-set-up-keeps-edac : (strap limit : ℕ) (locked : Bool) (w : World) → setUpOf strap limit locked w .world .edac ≡ w .edac
 unfolding setUpOf
-a-set-up-keeps-edac address limit locked w = apart (setUpFit address limit (lengthsOf w))
+a-set-up-keeps-edac strap limit locked w = apart (setUpFit strap limit (lengthsOf w))
   where
-    apart : (f : Fit) → setUpAs f address limit locked w .world .edac ≡ w .edac
+    apart : (f : Fit) → setUpAs f strap limit locked w .world .edac ≡ w .edac
     apart Fits = refl
     apart (Unfit answer) = refl
 
@@ -147,11 +149,11 @@ a-set-up-keeps-edac address limit locked w = apart (setUpFit address limit (leng
 -- long as it was, and each of its read-only bytes has the value that it had.
 pub no-bytes-change-a-read-only-byte : (edac : List ℕ) (calls : List EdacCall) → KeepsReadOnly edac (edacLeft edac calls)
 no-bytes-change-a-read-only-byte edac [] = kept-at-first edac
-no-bytes-change-a-read-only-byte edac (setting-up address limit locked w ∷ calls) =
-    also-kept (subst (KeepsReadOnly edac) (sym (a-set-up-keeps-edac address limit locked (withEdac w edac))) (kept-at-first edac))
-    (no-bytes-change-a-read-only-byte (setUpOf address limit locked (withEdac w edac) .world .edac) calls)
+no-bytes-change-a-read-only-byte edac (setting-up strap limit locked w ∷ calls) =
+    also-kept (subst (KeepsReadOnly edac) (sym (a-set-up-keeps-edac strap limit locked (withEdac w edac))) (kept-at-first edac))
+    (no-bytes-change-a-read-only-byte (setUpOf strap limit locked (withEdac w edac) .world .edac) calls)
 no-bytes-change-a-read-only-byte edac (stepping u c ∷ calls) =
-    also-kept (a-step-keeps-read-only-bytes u (c .byte) (withEdac (c .lent) edac))
-    (no-bytes-change-a-read-only-byte (stepOf u (c .byte) (withEdac (c .lent) edac) .world .edac) calls)
+    also-kept (a-step-keeps-read-only-bytes u (c .port) (c .byte) (c .sending) (withEdac (c .lent) edac))
+    (no-bytes-change-a-read-only-byte (stepOf u (c .port) (c .byte) (c .sending) (withEdac (c .lent) edac) .world .edac) calls)
 no-bytes-change-a-read-only-byte edac (storing limit list ∷ calls) =
     also-kept (storing-keeps-read-only-bytes limit edac list) (no-bytes-change-a-read-only-byte (storeListOf limit edac list .edac) calls)

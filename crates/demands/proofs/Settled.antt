@@ -1,10 +1,10 @@
 -- One outcome for each call. Assumes nothing.
 use mathlib.Core.Path.{_≡_, sym, ap, _∙_}
-use Rattle.unit.specs.declared.Stepped.{Stepped}
-use Rattle.unit.specs.World.{World, Outcome, outcomeOf}
+use Rattle.commanding.specs.declared.Stepped.{Stepped}
+use Rattle.commanding.specs.World.{World, Outcome, outcomeOf}
 
 handed : Outcome → Stepped
-handed o = record { unit = o .unit; answer = o .answer; cost = o .cost }
+handed o = record { unit = o .unit; answer = o .answer; cost = o .cost; port = o .port }
 
 -- The contracts of `set_up` and `step` are one equation each: what is handed back, with all that was lent, is the outcome that the
 -- definition gives. Two that satisfy it are equal in all of it.

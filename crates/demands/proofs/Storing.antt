@@ -47,10 +47,10 @@ use Rattle.command.specs.Command.{commandOf}
 use Rattle.command.proofs.Codes.{in-either-mode, in-application, not-in-bootloader}
 use Rattle.answer.specs.Answers.{numberOf}
 use Rattle.judging.specs.declared.Unit.{Unit}
-use Rattle.replying.specs.Replies.{codeOf, polls, replyMessage}
-use Rattle.unit.specs.World.{heldOf}
+use Rattle.replying.specs.Replies.{codeOf, replyMessage}
+use Rattle.commanding.specs.World.{heldOf}
 use Rattle.demands.specs.Calls.{Call, Bytes}
-use Rattle.demands.specs.Orders.{Sends, leftBy, sentBy, cameTo, lendingFram, lendingEdac, showing}
+use Rattle.demands.specs.Orders.{Sends, leftBy, sentBy, cameTo, lendingFram, lendingEdac, showing, Way, met, replies}
 use Rattle.demands.proofs.Orders.{each-a-byte, a-WRITE-FILE-comes-to, WasDone, a-command-that-is-done-sends-its-data, edac-is-whole, a-lent-FRAM-is-no-longer, a-command-answered-so-was-done}
 
 -- ---- a part of what is held
@@ -190,40 +190,40 @@ module _ (other which : Which) (field : List ℕ) (apart : other ≡ which → �
       few-enough byte low = either-way (λ (n : ℕ). n < 65536) (eqb byte 0) 256 byte (λ _. omega arith) (λ _. omega arith)
 
 -- A POKE of bytes at an address was sent, to a FRAM that is not locked, and answered 1 or 2.
-module _ (u : Unit) (message : List ℕ) (source control address : ℕ) (bytes : List ℕ) (calls : List Call) (c : Call)
-    (sends : Sends u message source control (bytes32 address ++ bytes) calls c) (pokes : codeOf control ≡ 0x03)
-    (was-done : numberOf (leftBy u message calls c .answer) ≤ 2) (which : Which) (named : whichOf (bytes32 address ++ bytes) ≡ which)
-    (free : lockOf which (u .locked) ≡ false) where
-  abbrev known : WasDone (leftBy u message calls c) (cameTo u c control (bytes32 address ++ bytes))
-  known = a-command-answered-so-was-done u message source control (bytes32 address ++ bytes) calls c sends was-done
+module _ (way : Way) (source control address : ℕ) (bytes : List ℕ) (c : Call)
+    (sends : Sends way source control (bytes32 address ++ bytes) c) (pokes : codeOf control ≡ 0x03)
+    (was-done : numberOf (leftBy way c .answer) ≤ 2) (which : Which) (named : whichOf (bytes32 address ++ bytes) ≡ which)
+    (free : lockOf which (met way .locked) ≡ false) where
+  abbrev known : WasDone (leftBy way c) (cameTo (met way) c control (bytes32 address ++ bytes))
+  known = a-command-answered-so-was-done way source control (bytes32 address ++ bytes) c sends was-done
 
   abbrev around : Kept → Held
-  around memory = held (standing (u .mode) (u .locked) (c .lent .diagnostics)) (c .lent .edac) (withFram which (c .lent .frams) memory)
+  around memory = held (standing (met way .mode) (met way .locked) (c .lent .diagnostics)) (c .lent .edac) (withFram which (c .lent .frams) memory)
 
   nested : {M N O : Type 0} (f : N → O) (g : M → N) (e : Ending M) → inside f (inside g e) ≡ inside (λ m. f (g m)) e
   nested f g (done reply after) = refl
   nested f g refused = refl
   nested f g unfitted = refl
 
-  abbrev poked : OnThePart around (pokeOf (u .limit) (firstOf which) false (framOf which (c .lent .frams)) (bytes32 address ++ bytes)) (known .reply) (known .after)
+  abbrev poked : OnThePart around (pokeOf (met way .limit) (firstOf which) false (framOf which (c .lent .frams)) (bytes32 address ++ bytes)) (known .reply) (known .after)
   poked =
-      on-the-part around (pokeOf (u .limit) (firstOf which) false (framOf which (c .lent .frams)) (bytes32 address ++ bytes)) (known .reply) (known .after)
-      (sym (in-either-mode (u .limit) (codeOf control) (heldOf u (c .lent)) (bytes32 address ++ bytes) 0x03
-      (onFrams (heldOf u (c .lent)) (pokeByAddress (u .limit) (u .locked) (c .lent .frams) (bytes32 address ++ bytes))) pokes refl
-      ∙ ap (onFrams (heldOf u (c .lent)))
-      (a-POKE-where-it-is-named (bytes32 address ++ bytes) which named (u .limit) (u .locked) (c .lent .frams)
-      ∙ ap (λ (b : Bool). inside (withFram which (c .lent .frams)) (pokeOf (u .limit) (firstOf which) b (framOf which (c .lent .frams)) (bytes32 address ++ bytes))) free)
-      ∙ nested (λ both. held (standing (u .mode) (u .locked) (c .lent .diagnostics)) (c .lent .edac) both) (withFram which (c .lent .frams))
-      (pokeOf (u .limit) (firstOf which) false (framOf which (c .lent .frams)) (bytes32 address ++ bytes)))
+      on-the-part around (pokeOf (met way .limit) (firstOf which) false (framOf which (c .lent .frams)) (bytes32 address ++ bytes)) (known .reply) (known .after)
+      (sym (in-either-mode (met way .limit) (codeOf control) (heldOf (met way) (c .lent)) (bytes32 address ++ bytes) 0x03
+      (onFrams (heldOf (met way) (c .lent)) (pokeByAddress (met way .limit) (met way .locked) (c .lent .frams) (bytes32 address ++ bytes))) pokes refl
+      ∙ ap (onFrams (heldOf (met way) (c .lent)))
+      (a-POKE-where-it-is-named (bytes32 address ++ bytes) which named (met way .limit) (met way .locked) (c .lent .frams)
+      ∙ ap (λ (b : Bool). inside (withFram which (c .lent .frams)) (pokeOf (met way .limit) (firstOf which) b (framOf which (c .lent .frams)) (bytes32 address ++ bytes))) free)
+      ∙ nested (λ both. held (standing (met way .mode) (met way .locked) (c .lent .diagnostics)) (c .lent .edac) both) (withFram which (c .lent .frams))
+      (pokeOf (met way .limit) (firstOf which) false (framOf which (c .lent .frams)) (bytes32 address ++ bytes)))
       ∙ known .is)
 
   -- It leaves the other FRAM as it was, with its sums.
-  pub a-POKE-leaves-the-other-FRAM : (other : Which) → (other ≡ which → ⊥) → framOf other (leftBy u message calls c .world .frams) ≡ framOf other (c .lent .frams)
+  pub a-POKE-leaves-the-other-FRAM : (other : Which) → (other ≡ which → ⊥) → framOf other (leftBy way c .world .frams) ≡ framOf other (c .lent .frams)
   a-POKE-leaves-the-other-FRAM other apart =
       ap (framOf other) (known .frams ∙ ap (λ (h : Held). h .frams) (sym (poked .whole))) ∙ untouched which other (c .lent .frams) (poked .part) apart
 
   -- Later, a call `d` on a unit `v` lends that FRAM's bytes as the POKE left them.
-  module _ (v : Unit) (d : Call) (its-fram : framOf which (d .lent .frams) .fram ≡ framOf which (leftBy u message calls c .world .frams) .fram) where
+  module _ (v : Unit) (d : Call) (its-fram : framOf which (d .lent .frams) .fram ≡ framOf which (leftBy way c .world .frams) .fram) where
     fram-then : framOf which (d .lent .frams) .fram ≡ poked .part .fram
     fram-then =
         its-fram
@@ -249,7 +249,7 @@ module _ (u : Unit) (message : List ℕ) (source control address : ℕ) (bytes :
         peeks which control′ code d field there
         ∙ ap (λ l. reading (heldOf v (d .lent)) (peekOf (v .limit) (firstOf which) l field)) fram-then
         ∙ ap (reading (heldOf v (d .lent)))
-        (fram.a-PEEK-after-a-POKE (u .limit) (firstOf which) (framOf which (c .lent .frams)) (bytes32 address ++ bytes) (known .reply) (poked .part) (poked .is) (v .limit) field
+        (fram.a-PEEK-after-a-POKE (met way .limit) (firstOf which) (framOf which (c .lent .frams)) (bytes32 address ++ bytes) (known .reply) (poked .part) (poked .is) (v .limit) field
         ∙ ap (λ (a : ℕ). withData (shownAfter 4 a bytes (word32At field 0)) (peekOf (v .limit) (firstOf which) before field)) (four-bytes address small))
         ∙ read-so (heldOf v (d .lent)) (heldOf v (lendingFram which d before .lent)) (shownAfter 4 address bytes (word32At field 0)) (peekOf (v .limit) (firstOf which) before field)
         ∙ ap (showing (heldOf v (d .lent)) (shownAfter 4 address bytes (word32At field 0)))
@@ -261,9 +261,9 @@ module _ (u : Unit) (message : List ℕ) (source control address : ℕ) (bytes :
     lies-there : address < 4294967296 → (firstOf which ≤ address) × (address + length bytes ≤ firstOf which + 262144)
     lies-there small =
         let poke = bytes32 address ++ bytes in
-        let was = fram.a-POKE-that-was-done (u .limit) (firstOf which) false (framOf which (c .lent .frams)) poke (known .reply) (poked .part) (poked .is) in
+        let was = fram.a-POKE-that-was-done (met way .limit) (firstOf which) false (framOf which (c .lent .frams)) poke (known .reply) (poked .part) (poked .is) in
         let here = a-place-is-where-its-address-says (firstOf which) (length (framOf which (c .lent .frams) .fram)) (word32At poke 0) (length poke - 4) (was .at) (was .found) in
-        let most = a-lent-FRAM-is-no-longer u message source control poke calls c sends which in
+        let most = a-lent-FRAM-is-no-longer way source control poke c sends which in
         let is = four-bytes address small in
         (omega (arith, here .0), omega (arith, here .0, here .1))
 
@@ -303,7 +303,7 @@ module _ (u : Unit) (message : List ℕ) (source control address : ℕ) (bytes :
         ∙ ap (λ l. done l (heldOf v (d .lent))) (shown-elsewhere 4 address bytes (word32At field 0) reply apart)
 
     few : length bytes < 65536
-    few = omega (arith, sends .short, within-both-ends (u .limit) (sends .serves .1) .1)
+    few = omega (arith, sends .short, within-both-ends (way .unit .limit) (sends .serves .2) .1)
 
     -- A PEEK of the same range, where its reply has room (as it has where the limit is the same), is done, and shows the bytes poked.
     pub what-was-poked-is-peeked : 4 + length bytes ≤ v .limit → (control′ : ℕ) → codeOf control′ ≡ 0x02
@@ -312,15 +312,15 @@ module _ (u : Unit) (message : List ℕ) (source control address : ℕ) (bytes :
         peeks which control′ code d (bytes32 address ++ bytes16 (length bytes)) named
         ∙ ap (λ l. reading (heldOf v (d .lent)) (peekOf (v .limit) (firstOf which) l (bytes32 address ++ bytes16 (length bytes)))) fram-then
         ∙ ap (reading (heldOf v (d .lent)))
-        (fram.what-was-poked-is-peeked (u .limit) (firstOf which) (framOf which (c .lent .frams)) address bytes (known .reply) (poked .part) (poked .is) few (v .limit) roomy)
+        (fram.what-was-poked-is-peeked (met way .limit) (firstOf which) (framOf which (c .lent .frams)) address bytes (known .reply) (poked .part) (poked .is) few (v .limit) roomy)
 
-    -- And from bytes on the line to bytes on the line: such a PEEK, sent with poll set, is answered by the packed reply with those bytes.
-    pub what-was-poked-is-sent : 4 + length bytes ≤ v .limit → (message′ : List ℕ) (source′ control′ : ℕ) (calls′ : List Call)
-        → Sends v message′ source′ control′ (bytes32 address ++ bytes16 (length bytes)) calls′ d → codeOf control′ ≡ 0x02 → polls control′ ≡ true
-        → sentBy (leftBy v message′ calls′ d) ≡ packedOf (replyMessage 1 (v .address) source′ control′ (bytes32 address ++ bytes))
-    what-was-poked-is-sent roomy message′ source′ control′ calls′ asks code polled =
-        a-command-that-is-done-sends-its-data v message′ source′ control′ (bytes32 address ++ bytes16 (length bytes)) calls′ d asks polled (bytes32 address ++ bytes) (heldOf v (d .lent))
-        (what-was-poked-is-peeked roomy control′ code)
+    -- And from bytes on the line to bytes on the line: such a PEEK, sent to that unit, where its reply leaves, is answered by the packed reply with those bytes.
+    pub what-was-poked-is-sent : 4 + length bytes ≤ v .limit → (way′ : Way) → met way′ ≡ v → (source′ control′ : ℕ)
+        → Sends way′ source′ control′ (bytes32 address ++ bytes16 (length bytes)) d → codeOf control′ ≡ 0x02 → replies way′ control′ d ≡ true
+        → sentBy (leftBy way′ d) ≡ packedOf (replyMessage 1 (way′ .destination) source′ control′ (bytes32 address ++ bytes))
+    what-was-poked-is-sent roomy way′ same source′ control′ asks code leaves =
+        a-command-that-is-done-sends-its-data way′ source′ control′ (bytes32 address ++ bytes16 (length bytes)) d asks leaves (bytes32 address ++ bytes) (heldOf v (d .lent))
+        (ap (λ x. cameTo x d control′ (bytes32 address ++ bytes16 (length bytes))) same ∙ what-was-poked-is-peeked roomy control′ code)
 
 -- ---- WRITE EDAC, READ EDAC and GATHER
 
@@ -329,35 +329,35 @@ record Wrote (writes : Ending (List ℕ)) (left : List ℕ) : Type 0 where
   reply : List ℕ
   is : writes ≡ done reply left
 
-wrote-so : (u : Unit) (message : List ℕ) (source control : ℕ) (field : List ℕ) (calls : List Call) (c : Call) → Sends u message source control field calls c
-    → numberOf (leftBy u message calls c .answer) ≤ 2 → 0x07 ≤ codeOf control → (writes : Ending (List ℕ))
-    → (u .mode ≡ Application → cameTo u c control field ≡ onEdac (heldOf u (c .lent)) writes) → Wrote writes (leftBy u message calls c .world .edac)
-wrote-so u message source control field calls c sends was-done above writes row =
-    let known = a-command-answered-so-was-done u message source control field calls c sends was-done in
-    let mode = was-in-application (u .limit) (codeOf control) (heldOf u (c .lent)) field (known .reply) (known .after) above (known .is) in
-    let there = on-the-part (λ l. held (standing (u .mode) (u .locked) (c .lent .diagnostics)) l (c .lent .frams)) writes (known .reply) (known .after) (sym (row mode) ∙ known .is) in
+wrote-so : (way : Way) (source control : ℕ) (field : List ℕ) (c : Call) → Sends way source control field c
+    → numberOf (leftBy way c .answer) ≤ 2 → 0x07 ≤ codeOf control → (writes : Ending (List ℕ))
+    → (met way .mode ≡ Application → cameTo (met way) c control field ≡ onEdac (heldOf (met way) (c .lent)) writes) → Wrote writes (leftBy way c .world .edac)
+wrote-so way source control field c sends was-done above writes row =
+    let known = a-command-answered-so-was-done way source control field c sends was-done in
+    let mode = was-in-application (met way .limit) (codeOf control) (heldOf (met way) (c .lent)) field (known .reply) (known .after) above (known .is) in
+    let there = on-the-part (λ l. held (standing (met way .mode) (met way .locked) (c .lent .diagnostics)) l (c .lent .frams)) writes (known .reply) (known .after) (sym (row mode) ∙ known .is) in
     record { reply = known .reply; is = there .is ∙ ap (λ l. done (known .reply) l) (ap (λ (h : Held). h .edac) (there .whole) ∙ sym (known .edac)) }
 
 -- A WRITE EDAC of bytes at an address was sent, and answered 1 or 2. Later, a call `d` on a unit `v` in application mode lends EDAC
 -- memory as it was left.
-module _ (u : Unit) (message : List ℕ) (source control address : ℕ) (bytes : List ℕ) (calls : List Call) (c : Call)
-    (sends : Sends u message source control (bytes16 address ++ bytes) calls c) (code : codeOf control ≡ 0x0A)
-    (was-done : numberOf (leftBy u message calls c .answer) ≤ 2) (v : Unit) (mode : v .mode ≡ Application) (d : Call)
-    (its-edac : d .lent .edac ≡ leftBy u message calls c .world .edac) where
+module _ (way : Way) (source control address : ℕ) (bytes : List ℕ) (c : Call)
+    (sends : Sends way source control (bytes16 address ++ bytes) c) (code : codeOf control ≡ 0x0A)
+    (was-done : numberOf (leftBy way c .answer) ≤ 2) (v : Unit) (mode : v .mode ≡ Application) (d : Call)
+    (its-edac : d .lent .edac ≡ leftBy way c .world .edac) where
   abbrev field : List ℕ
   field = bytes16 address ++ bytes
 
   abbrev left : List ℕ
-  left = leftBy u message calls c .world .edac
+  left = leftBy way c .world .edac
 
-  abbrev wrote : Wrote (writeEdacOf (u .limit) (c .lent .edac) field) left
+  abbrev wrote : Wrote (writeEdacOf (met way .limit) (c .lent .edac) field) left
   wrote =
-      wrote-so u message source control field calls c sends was-done (omega (arith, code)) (writeEdacOf (u .limit) (c .lent .edac) field)
-      (λ application. in-application (u .limit) (codeOf control) (heldOf u (c .lent)) field 0x0A
-      (onEdac (heldOf u (c .lent)) (writeEdacOf (u .limit) (c .lent .edac) field)) code application refl)
+      wrote-so way source control field c sends was-done (omega (arith, code)) (writeEdacOf (met way .limit) (c .lent .edac) field)
+      (λ application. in-application (met way .limit) (codeOf control) (heldOf (met way) (c .lent)) field 0x0A
+      (onEdac (heldOf (met way) (c .lent)) (writeEdacOf (met way .limit) (c .lent .edac) field)) code application refl)
 
   whole : length (c .lent .edac) ≡ edacSize
-  whole = edac-is-whole u message source control field calls c sends
+  whole = edac-is-whole way source control field c sends
 
   reads : (control′ : ℕ) → codeOf control′ ≡ 0x09 → (e : Call) (asked : List ℕ)
       → cameTo v e control′ asked ≡ reading (heldOf v (e .lent)) (readEdacOf (v .limit) (e .lent .edac) asked)
@@ -379,7 +379,7 @@ module _ (u : Unit) (message : List ℕ) (source control address : ℕ) (bytes :
       reads control′ is d asked
       ∙ ap (λ l. reading (heldOf v (d .lent)) (readEdacOf (v .limit) l asked)) its-edac
       ∙ ap (reading (heldOf v (d .lent)))
-      (edac.a-READ-EDAC-after-a-WRITE-EDAC (u .limit) (c .lent .edac) field (wrote .reply) left whole (wrote .is) (v .limit) asked
+      (edac.a-READ-EDAC-after-a-WRITE-EDAC (met way .limit) (c .lent .edac) field (wrote .reply) left whole (wrote .is) (v .limit) asked
       ∙ ap (λ (a : ℕ). withData (edacAfter a bytes (word16At asked 0)) (readEdacOf (v .limit) (c .lent .edac) asked)) (two-bytes address small))
       ∙ read-so (heldOf v (d .lent)) (heldOf v (lendingEdac d (c .lent .edac) .lent)) (edacAfter address bytes (word16At asked 0)) (readEdacOf (v .limit) (c .lent .edac) asked)
       ∙ ap (showing (heldOf v (d .lent)) (edacAfter address bytes (word16At asked 0))) (sym (reads control′ is (lendingEdac d (c .lent .edac)) asked))
@@ -401,7 +401,7 @@ module _ (u : Unit) (message : List ℕ) (source control address : ℕ) (bytes :
       gathers control′ is d asked
       ∙ ap (λ l. reading (heldOf v (d .lent)) (gatherOf (v .limit) l asked)) its-edac
       ∙ ap (reading (heldOf v (d .lent)))
-      (edac.a-GATHER-after-a-WRITE-EDAC (u .limit) (c .lent .edac) field (wrote .reply) left whole (wrote .is) (v .limit) asked
+      (edac.a-GATHER-after-a-WRITE-EDAC (met way .limit) (c .lent .edac) field (wrote .reply) left whole (wrote .is) (v .limit) asked
       ∙ ap (λ (a : ℕ). withData (λ _. rangesAfter a bytes (c .lent .edac) (ranges asked)) (gatherOf (v .limit) (c .lent .edac) asked)) (two-bytes address small))
       ∙ read-so (heldOf v (d .lent)) (heldOf v (lendingEdac d (c .lent .edac) .lent)) (λ _. rangesAfter address bytes (c .lent .edac) (ranges asked)) (gatherOf (v .limit) (c .lent .edac) asked)
       ∙ ap (showing (heldOf v (d .lent)) (λ _. rangesAfter address bytes (c .lent .edac) (ranges asked))) (sym (gathers control′ is (lendingEdac d (c .lent .edac)) asked))
@@ -412,8 +412,8 @@ module _ (u : Unit) (message : List ℕ) (source control address : ℕ) (bytes :
 
   answered-with : address < 65536 → wrote .reply ≡ bytes16 address ++ now-there
   answered-with small =
-      edac.what-a-WRITE-EDAC-answers (u .limit) (c .lent .edac) address bytes (wrote .reply) left whole (wrote .is)
-      ∙ ap (λ l. bytes16 address ++ l) (edac.what-memory-then-holds (u .limit) (c .lent .edac) address bytes (wrote .reply) left whole (wrote .is))
+      edac.what-a-WRITE-EDAC-answers (met way .limit) (c .lent .edac) address bytes (wrote .reply) left whole (wrote .is)
+      ∙ ap (λ l. bytes16 address ++ l) (edac.what-memory-then-holds (met way .limit) (c .lent .edac) address bytes (wrote .reply) left whole (wrote .is))
       ∙ ap (λ (a : ℕ). bytes16 address ++ keeping a (stretch a (length bytes) (c .lent .edac)) bytes) (two-bytes address small)
 
   -- A READ EDAC of the same range, where its reply has room, is done, and shows it; a GATHER of it too.
@@ -422,7 +422,7 @@ module _ (u : Unit) (message : List ℕ) (source control address : ℕ) (bytes :
   what-was-written-is-read small roomy control′ is =
       reads control′ is d (bytes16 address ++ bytes16 (length bytes))
       ∙ ap (λ l. reading (heldOf v (d .lent)) (readEdacOf (v .limit) l (bytes16 address ++ bytes16 (length bytes)))) its-edac
-      ∙ ap (reading (heldOf v (d .lent))) (edac.what-was-written-is-read (u .limit) (c .lent .edac) address bytes (wrote .reply) left whole (wrote .is) (v .limit) roomy)
+      ∙ ap (reading (heldOf v (d .lent))) (edac.what-was-written-is-read (met way .limit) (c .lent .edac) address bytes (wrote .reply) left whole (wrote .is) (v .limit) roomy)
       ∙ ap (λ l. done l (heldOf v (d .lent))) (answered-with small)
 
   pub what-was-written-is-gathered : address < 65536 → 4 + length bytes ≤ v .limit → (control′ : ℕ) → codeOf control′ ≡ 0x0B
@@ -430,7 +430,7 @@ module _ (u : Unit) (message : List ℕ) (source control address : ℕ) (bytes :
   what-was-written-is-gathered small roomy control′ is =
       gathers control′ is d (bytes16 address ++ bytes16 (length bytes))
       ∙ ap (λ l. reading (heldOf v (d .lent)) (gatherOf (v .limit) l (bytes16 address ++ bytes16 (length bytes)))) its-edac
-      ∙ ap (reading (heldOf v (d .lent))) (edac.what-was-written-is-gathered (u .limit) (c .lent .edac) address bytes (wrote .reply) left whole (wrote .is) (v .limit) roomy)
+      ∙ ap (reading (heldOf v (d .lent))) (edac.what-was-written-is-gathered (met way .limit) (c .lent .edac) address bytes (wrote .reply) left whole (wrote .is) (v .limit) roomy)
       ∙ ap (λ l. done ((bytes16 address ++ bytes16 (length bytes)) ++ drop 2 l) (heldOf v (d .lent))) (answered-with small)
 
   -- Where all of it is writable, that is what was written.
@@ -439,27 +439,27 @@ module _ (u : Unit) (message : List ℕ) (source control address : ℕ) (bytes :
       let there = two-bytes address small in
       ap (drop 2)
       (sym (answered-with small)
-      ∙ edac.writable-bytes-are-echoed (u .limit) (c .lent .edac) address bytes (wrote .reply) left whole (wrote .is) (λ n low high. free n (omega arith) (omega arith)))
+      ∙ edac.writable-bytes-are-echoed (met way .limit) (c .lent .edac) address bytes (wrote .reply) left whole (wrote .is) (λ n low high. free n (omega arith) (omega arith)))
 
   -- From bytes on the line to bytes on the line.
-  pub what-was-written-is-sent : address < 65536 → 2 + length bytes ≤ v .limit → (message′ : List ℕ) (source′ control′ : ℕ) (calls′ : List Call)
-      → Sends v message′ source′ control′ (bytes16 address ++ bytes16 (length bytes)) calls′ d → codeOf control′ ≡ 0x09 → polls control′ ≡ true
-      → sentBy (leftBy v message′ calls′ d) ≡ packedOf (replyMessage 1 (v .address) source′ control′ (bytes16 address ++ now-there))
-  what-was-written-is-sent small roomy message′ source′ control′ calls′ asks is polled =
-      a-command-that-is-done-sends-its-data v message′ source′ control′ (bytes16 address ++ bytes16 (length bytes)) calls′ d asks polled (bytes16 address ++ now-there) (heldOf v (d .lent))
-      (what-was-written-is-read small roomy control′ is)
+  pub what-was-written-is-sent : address < 65536 → 2 + length bytes ≤ v .limit → (way′ : Way) → met way′ ≡ v → (source′ control′ : ℕ)
+      → Sends way′ source′ control′ (bytes16 address ++ bytes16 (length bytes)) d → codeOf control′ ≡ 0x09 → replies way′ control′ d ≡ true
+      → sentBy (leftBy way′ d) ≡ packedOf (replyMessage 1 (way′ .destination) source′ control′ (bytes16 address ++ now-there))
+  what-was-written-is-sent small roomy way′ same source′ control′ asks is leaves =
+      a-command-that-is-done-sends-its-data way′ source′ control′ (bytes16 address ++ bytes16 (length bytes)) d asks leaves (bytes16 address ++ now-there) (heldOf v (d .lent))
+      (ap (λ x. cameTo x d control′ (bytes16 address ++ bytes16 (length bytes))) same ∙ what-was-written-is-read small roomy control′ is)
 
 -- ---- WRITE FILE and READ FILE
 
 -- A WRITE FILE of a list was sent, and answered 1 or 2. Later, a call `d` on a unit `v` in application mode lends EDAC memory as it was
 -- left.
-module _ (u : Unit) (message : List ℕ) (source control : ℕ) (list : List ℕ) (calls : List Call) (c : Call) (sends : Sends u message source control list calls c)
-    (code : codeOf control ≡ 0x08) (was-done : numberOf (leftBy u message calls c .answer) ≤ 2) (v : Unit) (mode : v .mode ≡ Application) (d : Call)
-    (its-edac : d .lent .edac ≡ leftBy u message calls c .world .edac) where
-  abbrev filed : Wrote (writeFileOf (u .limit) (c .lent .edac) list) (leftBy u message calls c .world .edac)
+module _ (way : Way) (source control : ℕ) (list : List ℕ) (c : Call) (sends : Sends way source control list c)
+    (code : codeOf control ≡ 0x08) (was-done : numberOf (leftBy way c .answer) ≤ 2) (v : Unit) (mode : v .mode ≡ Application) (d : Call)
+    (its-edac : d .lent .edac ≡ leftBy way c .world .edac) where
+  abbrev filed : Wrote (writeFileOf (met way .limit) (c .lent .edac) list) (leftBy way c .world .edac)
   filed =
-      wrote-so u message source control list calls c sends was-done (omega (arith, code)) (writeFileOf (u .limit) (c .lent .edac) list)
-      (a-WRITE-FILE-comes-to u c control list code)
+      wrote-so way source control list c sends was-done (omega (arith, code)) (writeFileOf (met way .limit) (c .lent .edac) list)
+      (a-WRITE-FILE-comes-to (met way) c control list code)
 
   reads-files : (control′ : ℕ) → codeOf control′ ≡ 0x07 → (e : Call) (asked : List ℕ)
       → cameTo v e control′ asked ≡ reading (heldOf v (e .lent)) (readFileOf (v .limit) (e .lent .edac) asked)
@@ -475,21 +475,21 @@ module _ (u : Unit) (message : List ℕ) (source control : ℕ) (list : List ℕ
       reads-files control′ is d asked
       ∙ ap (λ l. reading (heldOf v (d .lent)) (readFileOf (v .limit) l asked)) its-edac
       ∙ ap (reading (heldOf v (d .lent)))
-      (files.a-READ-FILE-after-a-WRITE-FILE (u .limit) (c .lent .edac) list (filed .reply) (leftBy u message calls c .world .edac) (edac-is-whole u message source control list calls c sends)
+      (files.a-READ-FILE-after-a-WRITE-FILE (met way .limit) (c .lent .edac) list (filed .reply) (leftBy way c .world .edac) (edac-is-whole way source control list c sends)
       (each-a-byte list (sends .bytes .1 .1 .1)) (filed .is) (v .limit) asked (each-a-byte asked small))
       ∙ read-so (heldOf v (d .lent)) (heldOf v (lendingEdac d (c .lent .edac) .lent)) (λ _. filesAfter (listed list) (c .lent .edac) asked) (readFileOf (v .limit) (c .lent .edac) asked)
       ∙ ap (showing (heldOf v (d .lent)) (λ _. filesAfter (listed list) (c .lent .edac) asked)) (sym (reads-files control′ is (lendingEdac d (c .lent .edac)) asked))
 
   -- A READ FILE of the files that were written, where its reply has room, is done, and answers what the WRITE FILE answered.
-  pub files-that-were-written-are-read : length list ≤ v .limit → (reply : List ℕ) (after : Held) → cameTo u c control list ≡ done reply after → (control′ : ℕ) → codeOf control′ ≡ 0x07
+  pub files-that-were-written-are-read : length list ≤ v .limit → (reply : List ℕ) (after : Held) → cameTo (met way) c control list ≡ done reply after → (control′ : ℕ) → codeOf control′ ≡ 0x07
       → cameTo v d control′ (filesOf (listed list)) ≡ done reply (heldOf v (d .lent))
   unfolding wrote-so
   files-that-were-written-are-read roomy reply after came control′ is =
-      let known = a-command-answered-so-was-done u message source control list calls c sends was-done in
+      let known = a-command-answered-so-was-done way source control list c sends was-done in
       let same : known .reply ≡ reply = replies-alike (sym (known .is) ∙ came) in
       reads-files control′ is d (filesOf (listed list))
       ∙ ap (λ l. reading (heldOf v (d .lent)) (readFileOf (v .limit) l (filesOf (listed list)))) its-edac
       ∙ ap (reading (heldOf v (d .lent)))
-      (files.what-was-written-is-read-back (u .limit) (c .lent .edac) list (filed .reply) (leftBy u message calls c .world .edac) (edac-is-whole u message source control list calls c sends)
+      (files.what-was-written-is-read-back (met way .limit) (c .lent .edac) list (filed .reply) (leftBy way c .world .edac) (edac-is-whole way source control list c sends)
       (each-a-byte list (sends .bytes .1 .1 .1)) (filed .is) (v .limit) roomy)
       ∙ ap (λ l. done l (heldOf v (d .lent))) same

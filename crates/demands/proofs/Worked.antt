@@ -26,14 +26,17 @@ use Rattle.edac_commands.specs.WriteEdac.{writeEdacOf}
 use Rattle.command.specs.Diagnostic.{allChannels, channelsShown, diagnosticOf}
 use Rattle.command.specs.Init.{initOf}
 use Rattle.command.specs.Command.{commandOf}
+use Rattle.ports.specs.Ports.{answeredOn, hearOf, isOpen, settleOf}
 use Rattle.judging.specs.Fitting.{lengthsFit, setUpFit, stepFit}
 use Rattle.judging.specs.Judging.{runOf, verdictOf, receivedOf, judgeOf}
 use Rattle.replying.specs.Replies.{sealed, replyMessage, saying, saidOf}
-use Rattle.unit.specs.Steps.{setUpOf, answered, commandedOf, servedOf, stepOf}
+use Rattle.replying.specs.Ports.{fateOf, saidOnOf}
+use Rattle.commanding.specs.Commanded.{answered, commandedOf}
+use Rattle.unit.specs.Steps.{setUpOf, servedOf, stepOf}
 use Rattle.demands.specs.Worked.{WorkedExamples}
 
 pub the-worked-examples-hold : WorkedExamples
-unfolding stepOf setUpOf setUpFit stepFit lengthsFit freshSums freshFrom judgeOf receivedOf receiveOf insideOf afterEscapeOf closedOf storedOf countedOf verdictOf runOf servedOf countedUp commandedOf answered saidOf saying sealed replyMessage commandOf initOf statusWritten peekByAddress peekOf peekRangeOf pokeByAddress pokeOf storeOf refreshed crcByAddress crcOf rangeSum partsFrom joinAll joinedOf carried fieldCost rangeCost howMany placeOf escapedOf begun sumOf sumFrom byteStep bitSteps bitStep readFileOf filesShown filesWidth fileShown bodySize judgeListOf writeFileOf writeEdacOf listedFrom fileStored written keeping readOnly stored diagnosticOf allChannels channelsShown
+unfolding stepOf setUpOf setUpFit stepFit lengthsFit freshSums freshFrom judgeOf receivedOf hearOf answeredOn isOpen settleOf fateOf saidOnOf receiveOf insideOf afterEscapeOf closedOf storedOf countedOf verdictOf runOf servedOf countedUp commandedOf answered saidOf saying sealed replyMessage commandOf initOf statusWritten peekByAddress peekOf peekRangeOf pokeByAddress pokeOf storeOf refreshed crcByAddress crcOf rangeSum partsFrom joinAll joinedOf carried fieldCost rangeCost howMany placeOf escapedOf begun sumOf sumFrom byteStep bitSteps bitStep readFileOf filesShown filesWidth fileShown bodySize judgeListOf writeFileOf writeEdacOf listedFrom fileStored written keeping readOnly stored diagnosticOf allChannels channelsShown
 the-worked-examples-hold = record {
   P1 = sum.P1;
   P2 = sum.P2;
@@ -47,6 +50,11 @@ the-worked-examples-hold = record {
   P10 = (refl, refl, refl, refl, refl, refl);
   P11 = (refl, refl, refl, refl, refl, refl);
   P12 = (refl, refl, refl, refl, refl, refl);
+  T01-addresses = ((refl, refl, refl, refl), (refl, refl, refl));
+  T01-thrown-away = (refl, refl, refl, refl, refl);
+  T01-other-port = (refl, refl);
+  T01-lost = (refl, refl, refl, refl, refl, refl, refl);
+  T01-lost-NACK = (refl, refl, refl);
   T02 = ((refl, refl, refl, refl, refl, refl), (refl, refl, refl, refl, refl, refl));
   T06 = (refl, (refl, refl, refl, refl, refl, refl), (refl, refl, refl, refl, refl, refl), (refl, refl, refl, refl, refl, refl));
   T07 = (refl, refl, refl, refl, refl);

@@ -1,8 +1,8 @@
--- 01, "Small examples": P1 to P12, and one each for 02, T-02, T-06, T-07 and T-13, under one statement. Those that a unit can show are run on one, byte by
+-- 01, "Small examples": P1 to P12, and one each for 02, T-01, T-02, T-06, T-07 and T-13, under one statement. Those that a unit can show are run on one, byte by
 -- byte.
 -- Assumes nothing.
 use mathlib.Core.Path.{_≡_}
-use mathlib.Core.Bool.{true, false}
+use mathlib.Core.Bool.{Bool, true, false}
 use mathlib.Core.List.{List, [], _∷_, _++_}
 use Prim.Native.Nat.{ℕ}
 use lib.ListN.{take, replicate, set}
@@ -16,38 +16,63 @@ use Rattle.answer.specs.Answers.{numberOf, sentOf}
 use Rattle.answer.specs.declared.Answer.the-variants.{BadLimit}
 use Rattle.carrying.specs.declared.Mode.the-variants.{Bootloader}
 use Rattle.line.specs.declared.receiver.Place.the-variants.{Fresh}
-use Rattle.unit.specs.World.{World, world, outcome}
-use Rattle.unit.specs.Steps.{setUpOf, stepOf}
+use Rattle.ports.specs.declared.Side.{Side}
+use Rattle.ports.specs.declared.Side.the-variants.{Zero, One}
+use Rattle.ports.specs.declared.Port.the-variants.{Hearing}
+use Rattle.ports.specs.Sides.{Both, both}
+use Rattle.commanding.specs.World.{World, world, replyOf, outcome}
+use Rattle.unit.specs.Steps.{setUpOf}
+use Rattle.demands.specs.Arrivals.{Arrival, arriving}
 
--- What is seen of bytes on the line of a unit whose memory and buffers nobody else touches: the number of each answer, what each cost, all that is
--- sent, and what was lent as the last byte leaves it.
+-- What is seen of bytes on the lines of a unit whose memory and buffers nobody else touches: the number of each answer, what each cost, all that is
+-- sent on each port, the unit, and what was lent as the last byte leaves it.
 pub record Seen : Type 0 where
   pub answers : List ℕ
   pub costs : List ℕ
-  pub sent : List ℕ
+  pub sent : Both (List ℕ)
+  pub unit : Unit
   pub left : World
 
-abbrev pub seenOf : Unit → World → List ℕ → Seen
-seenOf u w [] = record { answers = []; costs = []; sent = []; left = w }
-seenOf u w (byte ∷ bytes) =
-    let o = stepOf u byte w in
-    let rest = seenOf (o .unit) (o .world) bytes in
+-- What one answer sends, before what later ones send.
+abbrev pub sentFirst : Side → List ℕ → Both (List ℕ) → Both (List ℕ)
+sentFirst Zero bytes rest = both (bytes ++ rest .at0) (rest .at1)
+sentFirst One bytes rest = both (rest .at0) (bytes ++ rest .at1)
+
+abbrev pub seenOf : Unit → World → List Arrival → Seen
+seenOf u w [] = record { answers = []; costs = []; sent = both [] []; unit = u; left = w }
+seenOf u w (a ∷ arrivals) =
+    let o = arriving u a w in
+    let rest = seenOf (o .unit) (o .world) arrivals in
     record {
       answers = numberOf (o .answer) ∷ rest .answers;
       costs = o .cost ∷ rest .costs;
-      sent = take (sentOf (o .answer)) (o .world .buffers .reply) ++ rest .sent;
+      sent = sentFirst (o .port) (take (sentOf (o .answer)) (replyOf (o .port) (o .world))) (rest .sent);
+      unit = rest .unit;
       left = rest .left;
     }
 
--- A fresh unit 0x41 with this limit and this EDAC memory, unlocked, all else being zeros: what bytes show. In 01 the limit is 1,028.
+-- Bytes on a port, while neither port is sending, or while those are that are said to be.
+abbrev pub onWhile : Bool → Bool → ℕ → List ℕ → List Arrival
+onWhile zero one number [] = []
+onWhile zero one number (byte ∷ bytes) =
+    record { port = number; byte = byte; sending = record { port0 = zero; port1 = one } } ∷ onWhile zero one number bytes
+
+abbrev pub on : ℕ → List ℕ → List Arrival
+on number bytes = onWhile false false number bytes
+
+-- A fresh unit with strap 1, which hears 0x41 on port 0 and answers it on port 1, with this limit and this EDAC memory, unlocked, all else being zeros:
+-- what bytes show. In 01 the limit is 1,028.
 abbrev pub blank : Kept
 blank = kept (replicate 256 0) (replicate 1 0)
 
 abbrev pub lentWith : List ℕ → World
-lentWith edac = world edac blank blank (replicate 31 0) (replicate 1033 0) (replicate 2068 0)
+lentWith edac = world edac blank blank (replicate 31 0) (replicate 1033 0) (replicate 2068 0) (replicate 1033 0) (replicate 2068 0)
+
+abbrev pub shownOf : ℕ → List ℕ → List Arrival → Seen
+shownOf limit edac arrivals = let o = setUpOf 1 limit false (lentWith edac) in seenOf (o .unit) (o .world) arrivals
 
 abbrev pub shownAt : ℕ → List ℕ → List ℕ → Seen
-shownAt limit edac bytes = let o = setUpOf 0x41 limit false (lentWith edac) in seenOf (o .unit) (o .world) bytes
+shownAt limit edac bytes = shownOf limit edac (on 0 bytes)
 
 abbrev pub shownBy : List ℕ → List ℕ → Seen
 shownBy edac bytes = shownAt 1028 edac bytes
@@ -63,11 +88,11 @@ noCounts = set (replicate 31 0) 0x06 0x40
 abbrev pub onceAt : ℕ → List ℕ
 onceAt channel = set noCounts channel 1
 
--- The answers, the bytes sent, the diagnostics and EDAC memory afterwards; both FRAMs as they were.
+-- Bytes on port 0: the answers, the bytes sent, all on port 1, the diagnostics and EDAC memory afterwards; both FRAMs as they were.
 abbrev pub ShowsAt : ℕ → List ℕ → List ℕ → List ℕ → List ℕ → List ℕ → List ℕ → Type 0
 ShowsAt limit before bytes answers sent diagnostics edac =
     let s = shownAt limit before bytes in
-    (s .answers ≡ answers) × (s .sent ≡ sent) × (s .left .diagnostics ≡ diagnostics) × (s .left .edac ≡ edac) × (s .left .frams .bootloader .fram ≡ replicate 256 0)
+    (s .answers ≡ answers) × (s .sent ≡ both [] sent) × (s .left .diagnostics ≡ diagnostics) × (s .left .edac ≡ edac) × (s .left .frams .bootloader .fram ≡ replicate 256 0)
     × (s .left .frams .user .fram ≡ replicate 256 0)
 
 abbrev pub Shows : List ℕ → List ℕ → List ℕ → List ℕ → List ℕ → List ℕ → Type 0
@@ -107,9 +132,9 @@ pub record WorkedExamples : Type 0 where
       × (unpackOf (0xDB ∷ 0xDD ∷ []) ≡ record { bytes = 0xDB ∷ []; fault = false })
       × (unpackOf (0xDB ∷ 0x00 ∷ []) ≡ record { bytes = []; fault = true })
       × Shows zeros (0xC0 ∷ 0xDB ∷ 0xDC ∷ 0xC0 ∷ []) (0 ∷ 0 ∷ 0 ∷ 6 ∷ []) [] (onceAt 0x08) zeros
-      × (take 1 (shownBy zeros (0xC0 ∷ 0xDB ∷ 0xDC ∷ 0xC0 ∷ []) .left .buffers .message) ≡ 0xC0 ∷ [])
+      × (take 1 (shownBy zeros (0xC0 ∷ 0xDB ∷ 0xDC ∷ 0xC0 ∷ []) .left .buffers .messages .at0) ≡ 0xC0 ∷ [])
       × Shows zeros (0xC0 ∷ 0xDB ∷ 0xDD ∷ 0xC0 ∷ []) (0 ∷ 0 ∷ 0 ∷ 6 ∷ []) [] (onceAt 0x08) zeros
-      × (take 1 (shownBy zeros (0xC0 ∷ 0xDB ∷ 0xDD ∷ 0xC0 ∷ []) .left .buffers .message) ≡ 0xDB ∷ [])
+      × (take 1 (shownBy zeros (0xC0 ∷ 0xDB ∷ 0xDD ∷ 0xC0 ∷ []) .left .buffers .messages .at0) ≡ 0xDB ∷ [])
       × Shows zeros (0xC0 ∷ 0xDB ∷ 0x00 ∷ 0xC0 ∷ []) (0 ∷ 0 ∷ 0 ∷ 5 ∷ []) [] (onceAt 0x07) zeros
   pub P8 : joinOf (record { sum = 0x00FF; len = 1 }) (record { sum = 0x00FF; len = 1 }) ≡ withPart (record { sum = 0x0000; len = 2 })
   -- And DIAGNOSTIC 08 then shows the runt.
@@ -134,6 +159,50 @@ pub record WorkedExamples : Type 0 where
       (initAnswers ++ replicate 13 0 ++ (3 ∷ []))
       (initReply ++ (0xC0 ∷ 0x11 ∷ 0x41 ∷ 0x88 ∷ 0x28 ∷ 0x01 ∷ 0x02 ∷ 0x03 ∷ 0x04 ∷ 0x29 ∷ 0x05 ∷ 0xD4 ∷ 0x65 ∷ 0xC0 ∷ []))
       noCounts zeros
+  -- 02, T-01: PINGs to the four addresses of strap 1, each on the port that hears it: 0x41 and 0x61 on port 0, answered on port 1 and on port 0; 0x51 and
+  -- 0x71 on port 1, answered on port 1 and on port 0. On the other port each is 9. No diagnostic moves.
+  pub T01-addresses : (let s = shownOf 1028 zeros
+      (on 0 (0xC0 ∷ 0x41 ∷ 0x11 ∷ 0x80 ∷ 0xD8 ∷ 0x6D ∷ 0xC0 ∷ []) ++ on 0 (0xC0 ∷ 0x61 ∷ 0x11 ∷ 0x80 ∷ 0xE3 ∷ 0x6E ∷ 0xC0 ∷ [])
+      ++ on 1 (0xC0 ∷ 0x51 ∷ 0x11 ∷ 0x80 ∷ 0x4D ∷ 0xE8 ∷ 0xC0 ∷ []) ++ on 1 (0xC0 ∷ 0x71 ∷ 0x11 ∷ 0x80 ∷ 0x76 ∷ 0xEB ∷ 0xC0 ∷ [])) in
+      (s .answers ≡ replicate 6 0 ++ (1 ∷ replicate 6 0) ++ (1 ∷ replicate 6 0) ++ (1 ∷ replicate 6 0) ++ (1 ∷ []))
+      × (s .sent .at0
+      ≡ (0xC0 ∷ 0x11 ∷ 0x61 ∷ 0xA0 ∷ 0x57 ∷ 0x48 ∷ 0x45 ∷ 0x45 ∷ 0x4C ∷ 0x20 ∷ 0x55 ∷ 0x4E ∷ 0x49 ∷ 0x54 ∷ 0x20 ∷ 0x4E ∷ 0x53 ∷ 0x50 ∷ 0x20 ∷ 0x30 ∷ 0x31 ∷ 0x98 ∷ 0x95 ∷ 0xC0 ∷ [])
+      ++ (0xC0 ∷ 0x11 ∷ 0x71 ∷ 0xA0 ∷ 0x57 ∷ 0x48 ∷ 0x45 ∷ 0x45 ∷ 0x4C ∷ 0x20 ∷ 0x55 ∷ 0x4E ∷ 0x49 ∷ 0x54 ∷ 0x20 ∷ 0x4E ∷ 0x53 ∷ 0x50 ∷ 0x20 ∷ 0x30 ∷ 0x31 ∷ 0x91 ∷ 0xE9 ∷ 0xC0 ∷ []))
+      × (s .sent .at1
+      ≡ (0xC0 ∷ 0x11 ∷ 0x41 ∷ 0xA0 ∷ 0x57 ∷ 0x48 ∷ 0x45 ∷ 0x45 ∷ 0x4C ∷ 0x20 ∷ 0x55 ∷ 0x4E ∷ 0x49 ∷ 0x54 ∷ 0x20 ∷ 0x4E ∷ 0x53 ∷ 0x50 ∷ 0x20 ∷ 0x30 ∷ 0x31 ∷ 0x8A ∷ 0x6D ∷ 0xC0 ∷ [])
+      ++ (0xC0 ∷ 0x11 ∷ 0x51 ∷ 0xA0 ∷ 0x57 ∷ 0x48 ∷ 0x45 ∷ 0x45 ∷ 0x4C ∷ 0x20 ∷ 0x55 ∷ 0x4E ∷ 0x49 ∷ 0x54 ∷ 0x20 ∷ 0x4E ∷ 0x53 ∷ 0x50 ∷ 0x20 ∷ 0x30 ∷ 0x31 ∷ 0x83 ∷ 0x11 ∷ 0xC0 ∷ []))
+      × (s .left .diagnostics ≡ noCounts))
+      × (let s = shownOf 1028 zeros
+      (on 1 (0xC0 ∷ 0x41 ∷ 0x11 ∷ 0x80 ∷ 0xD8 ∷ 0x6D ∷ 0xC0 ∷ []) ++ on 1 (0xC0 ∷ 0x61 ∷ 0x11 ∷ 0x80 ∷ 0xE3 ∷ 0x6E ∷ 0xC0 ∷ [])
+      ++ on 0 (0xC0 ∷ 0x51 ∷ 0x11 ∷ 0x80 ∷ 0x4D ∷ 0xE8 ∷ 0xC0 ∷ []) ++ on 0 (0xC0 ∷ 0x71 ∷ 0x11 ∷ 0x80 ∷ 0x76 ∷ 0xEB ∷ 0xC0 ∷ [])) in
+      (s .answers ≡ replicate 6 0 ++ (9 ∷ replicate 6 0) ++ (9 ∷ replicate 6 0) ++ (9 ∷ replicate 6 0) ++ (9 ∷ []))
+      × (s .sent ≡ both [] []) × (s .left .diagnostics ≡ noCounts))
+  -- While C0 41 11 stands open on port 0 a PING to 0x71 is answered there: the run is thrown away and counted in 0x0C. What is left of it, FESC and its FEND
+  -- too, is 0 and stores nothing. DIAGNOSTIC 0C 0D to 0x61 then shows one run thrown away and no reply lost.
+  pub T01-thrown-away : let s = shownOf 1028 zeros
+      (on 0 (0xC0 ∷ 0x41 ∷ 0x11 ∷ []) ++ on 1 (0xC0 ∷ 0x71 ∷ 0x11 ∷ 0x80 ∷ 0x76 ∷ 0xEB ∷ 0xC0 ∷ []) ++ on 0 (0x80 ∷ 0xD8 ∷ 0x6D ∷ 0xDB ∷ 0xC0 ∷ [])
+      ++ on 0 (0xC0 ∷ 0x61 ∷ 0x11 ∷ 0x84 ∷ 0x0C ∷ 0x0D ∷ 0xAD ∷ 0x58 ∷ 0xC0 ∷ [])) in
+      (s .answers ≡ replicate 9 0 ++ (1 ∷ replicate 5 0) ++ replicate 8 0 ++ (1 ∷ []))
+      × (s .sent .at0
+      ≡ (0xC0 ∷ 0x11 ∷ 0x71 ∷ 0xA0 ∷ 0x57 ∷ 0x48 ∷ 0x45 ∷ 0x45 ∷ 0x4C ∷ 0x20 ∷ 0x55 ∷ 0x4E ∷ 0x49 ∷ 0x54 ∷ 0x20 ∷ 0x4E ∷ 0x53 ∷ 0x50 ∷ 0x20 ∷ 0x30 ∷ 0x31 ∷ 0x91 ∷ 0xE9 ∷ 0xC0 ∷ [])
+      ++ (0xC0 ∷ 0x11 ∷ 0x61 ∷ 0xA4 ∷ 0x0C ∷ 0x01 ∷ 0x00 ∷ 0x00 ∷ 0x00 ∷ 0x0D ∷ 0x00 ∷ 0x00 ∷ 0x00 ∷ 0x00 ∷ 0x14 ∷ 0x50 ∷ 0xC0 ∷ []))
+      × (s .sent .at1 ≡ []) × (s .left .diagnostics ≡ onceAt 0x0C)
+      × (take 4 (shownOf 1028 zeros (on 0 (0xC0 ∷ 0x41 ∷ 0x11 ∷ []) ++ on 1 (0xC0 ∷ 0x71 ∷ 0x11 ∷ 0x80 ∷ 0x76 ∷ 0xEB ∷ 0xC0 ∷ []) ++ on 0 (0x80 ∷ 0xD8 ∷ 0x6D ∷ 0xDB ∷ 0xC0 ∷ [])) .left .buffers .messages .at0) ≡ 0x41 ∷ 0x11 ∷ 0x00 ∷ 0x00 ∷ [])
+  -- The same the other way round: C0 DB stands open on port 1 while a PING to 0x41 comes on port 0 and is answered there: counted in 0x13.
+  pub T01-other-port : let s = shownOf 1028 zeros (on 1 (0xC0 ∷ 0xDB ∷ []) ++ on 0 (0xC0 ∷ 0x41 ∷ 0x11 ∷ 0x80 ∷ 0xD8 ∷ 0x6D ∷ 0xC0 ∷ []) ++ on 1 (0xDC ∷ 0xC0 ∷ [])) in
+      (s .answers ≡ replicate 8 0 ++ (1 ∷ 0 ∷ 0 ∷ [])) × (s .left .diagnostics ≡ onceAt 0x13)
+  -- A PING to 0x61 while port 0 is sending is done, and its reply is lost: answer 2, counted in 0x0D, and no reply buffer changes. A runt on port 1 is
+  -- counted in 0x0F. On port 2 a byte is 27.
+  pub T01-lost : let s = shownOf 1028 zeros (onWhile true false 0 (0xC0 ∷ 0x61 ∷ 0x11 ∷ 0x80 ∷ 0xE3 ∷ 0x6E ∷ 0xC0 ∷ [])) in
+      (s .answers ≡ replicate 6 0 ++ (2 ∷ [])) × (s .sent ≡ both [] []) × (s .left .diagnostics ≡ onceAt 0x0D) × (s .left .buffers .replies ≡ both (replicate 2068 0) (replicate 2068 0))
+      × (shownOf 1028 zeros (on 1 (0xC0 ∷ 0x01 ∷ 0xC0 ∷ [])) .answers ≡ 0 ∷ 0 ∷ 6 ∷ [])
+      × (shownOf 1028 zeros (on 1 (0xC0 ∷ 0x01 ∷ 0xC0 ∷ [])) .left .diagnostics ≡ onceAt 0x0F)
+      × (shownOf 1028 zeros (on 2 (0xC0 ∷ [])) .answers ≡ 27 ∷ [])
+  -- A command with code 0x05 to 0x51 while port 1 is sending is refused, and its NACK is lost: answer 4, counted in 0x14. A DIAGNOSTIC that loses its own
+  -- reply is done, and counted.
+  pub T01-lost-NACK : (shownOf 1028 zeros (onWhile false true 1 (0xC0 ∷ 0x51 ∷ 0x11 ∷ 0x85 ∷ 0xE0 ∷ 0xBF ∷ 0xC0 ∷ [])) .answers ≡ replicate 6 0 ++ (4 ∷ []))
+      × (shownOf 1028 zeros (onWhile false true 1 (0xC0 ∷ 0x51 ∷ 0x11 ∷ 0x85 ∷ 0xE0 ∷ 0xBF ∷ 0xC0 ∷ [])) .left .diagnostics ≡ onceAt 0x14)
+      × (shownOf 1028 zeros (onWhile true true 0 (0xC0 ∷ 0x61 ∷ 0x11 ∷ 0x84 ∷ 0x0D ∷ 0x7E ∷ 0x69 ∷ 0xC0 ∷ [])) .answers ≡ replicate 7 0 ++ (2 ∷ []))
   -- 02, T-02: SPEED holds 100.0. WRITE FILE 15 01 02 03 04: answer 1, the reply shows SPEED as it is, and nothing is stored. WRITE EDAC
   -- 52 00 AA BB CC DD: answer 1, the two bytes before SPEED are stored, and the reply shows those and SPEED's first two.
   pub T02 : Shows withSpeed
@@ -146,11 +215,19 @@ pub record WorkedExamples : Type 0 where
       (initAnswers ++ replicate 12 0 ++ (1 ∷ []))
       (initReply ++ (0xC0 ∷ 0x11 ∷ 0x41 ∷ 0xAA ∷ 0x52 ∷ 0x00 ∷ 0xAA ∷ 0xBB ∷ 0x00 ∷ 0x00 ∷ 0xB6 ∷ 0x81 ∷ 0xC0 ∷ []))
       noCounts (stored withSpeed 0x052 (0xAA ∷ 0xBB ∷ []))
-  -- 02, T-06: a set-up at 259 is refused, and hands back a record of zeros. At a limit of 260 a run of 266 bytes is oversize, and a PEEK of 257 bytes is
+  -- 02, T-06: a set-up at 259 is refused, and hands back a record with strap 8 and else zeros. At a limit of 260 a run of 266 bytes is oversize, and a PEEK of 257 bytes is
   -- refused, which at 1,028 is an access to memory not fitted.
-  pub T06 : (setUpOf 0x41 259 true (lentWith zeros)
+  pub T06 : (setUpOf 1 259 true (lentWith zeros)
       ≡ outcome
-      (record { address = 0; limit = 0; mode = Bootloader; locked = false; «bootloader_len» = 0; «fram_len» = 0; receiver = record { place = Fresh; count = 0 } })
+      (record {
+        strap = 8;
+        limit = 0;
+        mode = Bootloader;
+        locked = false;
+        «bootloader_len» = 0;
+        «fram_len» = 0;
+        ports = record { port0 = Hearing (record { place = Fresh; count = 0 }); port1 = Hearing (record { place = Fresh; count = 0 }) };
+      })
       BadLimit (lentWith zeros))
       × ShowsAt 260 zeros (0xC0 ∷ (replicate 266 0x55 ++ (0xC0 ∷ []))) (replicate 267 0 ++ (7 ∷ [])) [] (onceAt 0x09) zeros
       × ShowsAt 260 zeros (0xC0 ∷ 0x41 ∷ 0x11 ∷ 0x82 ∷ 0x00 ∷ 0x00 ∷ 0x04 ∷ 0x20 ∷ 0x01 ∷ 0x01 ∷ 0x61 ∷ 0xF7 ∷ 0xC0 ∷ []) (replicate 12 0 ++ (3 ∷ []))
@@ -164,7 +241,7 @@ pub record WorkedExamples : Type 0 where
       ++ (0xC0 ∷ 0x41 ∷ 0x11 ∷ 0x83 ∷ 0x00 ∷ 0x00 ∷ 0x00 ∷ 0x20 ∷ 0xBB ∷ 0x6A ∷ 0x93 ∷ 0xC0 ∷ [])
       ++ (0xC0 ∷ 0x41 ∷ 0x11 ∷ 0x82 ∷ 0xFF ∷ 0xFF ∷ 0x03 ∷ 0x20 ∷ 0x02 ∷ 0xE7 ∷ 0x60 ∷ 0xC0 ∷ [])) in
       (s .answers ≡ replicate 11 0 ++ (1 ∷ replicate 10 0) ++ (1 ∷ replicate 11 0) ++ (1 ∷ replicate 11 0) ++ (3 ∷ []))
-      × (s .sent
+      × (s .sent .at1
       ≡ (0xC0 ∷ 0x11 ∷ 0x41 ∷ 0xA3 ∷ 0x00 ∷ 0x00 ∷ 0x00 ∷ 0x20 ∷ 0xAA ∷ 0x44 ∷ 0x5B ∷ 0xC0 ∷ [])
       ++ (0xC0 ∷ 0x11 ∷ 0x41 ∷ 0xA1 ∷ 0xEF ∷ 0xBE ∷ 0xAD ∷ 0xDE ∷ 0xB7 ∷ 0x02 ∷ 0xC0 ∷ [])
       ++ (0xC0 ∷ 0x11 ∷ 0x41 ∷ 0xA3 ∷ 0x00 ∷ 0x00 ∷ 0x00 ∷ 0x20 ∷ 0xBB ∷ 0x4C ∷ 0x5A ∷ 0xC0 ∷ [])
@@ -178,6 +255,6 @@ pub record WorkedExamples : Type 0 where
       ++ (0xC0 ∷ 0x41 ∷ 0x11 ∷ 0x86 ∷ 0x01 ∷ 0x00 ∷ 0x04 ∷ 0x20 ∷ 0x00 ∷ 0x00 ∷ 0x04 ∷ 0x20 ∷ 0xE2 ∷ 0x41 ∷ 0xC0 ∷ [])) in
       (s .answers ≡ replicate 14 0 ++ (1 ∷ replicate 14 0) ++ (2 ∷ replicate 14 0) ++ (3 ∷ []))
       × (s .costs ≡ replicate 14 0 ++ (1 ∷ replicate 14 0) ++ (255 ∷ replicate 15 0))
-      × (s .sent
+      × (s .sent .at1
       ≡ (0xC0 ∷ 0x11 ∷ 0x41 ∷ 0xA6 ∷ 0x00 ∷ 0x00 ∷ 0x04 ∷ 0x20 ∷ 0xFF ∷ 0x00 ∷ 0x04 ∷ 0x20 ∷ 0x82 ∷ 0x17 ∷ 0x58 ∷ 0x1A ∷ 0xC0 ∷ [])
       ++ (0xC0 ∷ 0x11 ∷ 0x41 ∷ 0x86 ∷ 0x01 ∷ 0x00 ∷ 0x04 ∷ 0x20 ∷ 0x00 ∷ 0x00 ∷ 0x04 ∷ 0x20 ∷ 0x8B ∷ 0x7E ∷ 0xC0 ∷ []))
