@@ -8,15 +8,16 @@ ghost use Rattle.blocks.specs.Fram.{kept};
 ghost use Rattle.face.specs.Face.{partIn, joinedOut, yesOut};
 ghost use Rattle.line.specs.Packing.{packOf};
 ghost use Rattle.file_commands.specs.WriteFile.{judgeListOf, storage, storeListOf};
-ghost use Rattle.unit.specs.World.{world};
+ghost use Rattle.commanding.specs.World.{world};
 ghost use Rattle.unit.specs.Steps.{setUpOf, stepOf};
-ghost use Rattle.face.specs.Records.{lockIn, unitIn, returned, returnedBy, packingBy};
+ghost use Rattle.face.specs.Records.{lockIn, sendingIn, unitIn, returned, returnedBy, packingBy};
 use face::WheelJoined;
 use face::WheelPacked;
 use face::WheelPart;
 use face::WheelStepped;
 use face::WheelUnit;
 use face::converting::lock_in;
+use face::converting::sending_in;
 use face::converting::stepped_out;
 use face::converting::unit_in;
 
@@ -43,7 +44,7 @@ pub extern "C" fn wheel_join(first: WheelPart, second: WheelPart) -> WheelJoined
 
 #[no_mangle]
 pub extern "C" fn wheel_set_up(
-    address: u8,
+    strap: u8,
     limit: u64,
     locked: u8,
     edac: &[u8],
@@ -52,15 +53,17 @@ pub extern "C" fn wheel_set_up(
     fram: &[u8],
     sums: &mut [u16],
     diagnostics: &mut [u32],
-    message: &[u8],
-    reply: &[u8],
+    message0: &[u8],
+    reply0: &[u8],
+    message1: &[u8],
+    reply1: &[u8],
 ) -> WheelStepped
-    ensures { λ r. ⌜ returned r (world (now (edac .entry)) (kept (now (bootloader .entry)) (now («bootloader_sums» .exit))) (kept (now (fram .entry)) (now (sums .exit))) (now (diagnostics .exit)) (now (message .entry)) (now (reply .entry)))
-        ≡ returnedBy (setUpOf address limit (lockIn locked) (world (now (edac .entry)) (kept (now (bootloader .entry)) (now («bootloader_sums» .entry))) (kept (now (fram .entry)) (now (sums .entry))) (now (diagnostics .entry)) (now (message .entry)) (now (reply .entry)))) ⌝ }
+    ensures { λ r. ⌜ returned r (world (now (edac .entry)) (kept (now (bootloader .entry)) (now («bootloader_sums» .exit))) (kept (now (fram .entry)) (now (sums .exit))) (now (diagnostics .exit)) (now (message0 .entry)) (now (reply0 .entry)) (now (message1 .entry)) (now (reply1 .entry)))
+        ≡ returnedBy (setUpOf strap limit (lockIn locked) (world (now (edac .entry)) (kept (now (bootloader .entry)) (now («bootloader_sums» .entry))) (kept (now (fram .entry)) (now (sums .entry))) (now (diagnostics .entry)) (now (message0 .entry)) (now (reply0 .entry)) (now (message1 .entry)) (now (reply1 .entry)))) ⌝ }
 {
     let most = limit as usize;
     stepped_out(unit::set_up(
-        address,
+        strap,
         most,
         lock_in(locked),
         edac,
@@ -69,38 +72,49 @@ pub extern "C" fn wheel_set_up(
         fram,
         sums,
         diagnostics,
-        message,
-        reply,
+        message0,
+        reply0,
+        message1,
+        reply1,
     ))
 }
 
 #[no_mangle]
 pub extern "C" fn wheel_step(
     unit: WheelUnit,
+    port: u8,
     byte: u8,
+    sending0: u8,
+    sending1: u8,
     edac: &mut [u8],
     bootloader: &mut [u8],
     bootloader_sums: &mut [u16],
     fram: &mut [u8],
     sums: &mut [u16],
     diagnostics: &mut [u32],
-    message: &mut [u8],
-    reply: &mut [u8],
+    message0: &mut [u8],
+    reply0: &mut [u8],
+    message1: &mut [u8],
+    reply1: &mut [u8],
 ) -> WheelStepped
-    ensures { λ r. ⌜ returned r (world (now (edac .exit)) (kept (now (bootloader .exit)) (now («bootloader_sums» .exit))) (kept (now (fram .exit)) (now (sums .exit))) (now (diagnostics .exit)) (now (message .exit)) (now (reply .exit)))
-        ≡ returnedBy (stepOf (unitIn unit) byte (world (now (edac .entry)) (kept (now (bootloader .entry)) (now («bootloader_sums» .entry))) (kept (now (fram .entry)) (now (sums .entry))) (now (diagnostics .entry)) (now (message .entry)) (now (reply .entry)))) ⌝ }
+    ensures { λ r. ⌜ returned r (world (now (edac .exit)) (kept (now (bootloader .exit)) (now («bootloader_sums» .exit))) (kept (now (fram .exit)) (now (sums .exit))) (now (diagnostics .exit)) (now (message0 .exit)) (now (reply0 .exit)) (now (message1 .exit)) (now (reply1 .exit)))
+        ≡ returnedBy (stepOf (unitIn unit) port byte (sendingIn sending0 sending1) (world (now (edac .entry)) (kept (now (bootloader .entry)) (now («bootloader_sums» .entry))) (kept (now (fram .entry)) (now (sums .entry))) (now (diagnostics .entry)) (now (message0 .entry)) (now (reply0 .entry)) (now (message1 .entry)) (now (reply1 .entry)))) ⌝ }
 {
     stepped_out(unit::step(
         unit_in(unit),
+        port,
         byte,
+        sending_in(sending0, sending1),
         edac,
         bootloader,
         bootloader_sums,
         fram,
         sums,
         diagnostics,
-        message,
-        reply,
+        message0,
+        reply0,
+        message1,
+        reply1,
     ))
 }
 

@@ -1,42 +1,44 @@
 -- What the rooms below answer and leave, put into C's form: one law for each call that is passed on. Assumes nothing.
-use mathlib.Core.Path.{_≡_, sym, ap, _∙_}
+use mathlib.Core.Path.{_≡_, sym, ap, ap₂, _∙_}
 use mathlib.Core.Bool.{Bool}
 use mathlib.Core.List.{List}
 use Prim.Native.Nat.{ℕ}
 use Rattle.file_commands.specs.declared.write_file.Storing.{Storing}
 use Rattle.file_commands.specs.WriteFile.{Storage, storage, storeNumberOf, storageOf}
-use Rattle.unit.specs.World.{World, Outcome, outcomeOf}
+use Rattle.commanding.specs.World.{World, Outcome, outcomeOf}
 use Rattle.unit.specs.Steps.{setUpOf, stepOf}
 use Rattle.judging.specs.declared.Unit.{Unit}
-use Rattle.unit.specs.declared.Stepped.{Stepped}
+use Rattle.ports.specs.declared.Sending.{Sending}
+use Rattle.commanding.specs.declared.Stepped.{Stepped}
 use Rattle.face.specs.declared.WheelStepped.{WheelStepped}
 use Rattle.face.specs.Face.{yesOut}
 use Rattle.face.specs.Records.{steppedOut, returned, returnedBy}
 
 passed-on
     : (r : WheelStepped) (stepped : Stepped) (after : World) (o : Outcome)
-    → r ≡ steppedOut (stepped .unit) (stepped .answer) (stepped .cost)
+    → r ≡ steppedOut (stepped .unit) (stepped .answer) (stepped .cost) (stepped .port)
     → outcomeOf stepped after ≡ o
     → returned r after ≡ returnedBy o
 passed-on r stepped after o e due = ap (λ s. returned s after) e ∙ ap returnedBy due
 
 pub a-set-up-passed-on
-    : (r : WheelStepped) (stepped : Stepped) (after : World) (address limit : ℕ) (locked meant : Bool) (before : World)
-    → r ≡ steppedOut (stepped .unit) (stepped .answer) (stepped .cost)
-    → outcomeOf stepped after ≡ setUpOf address limit locked before
+    : (r : WheelStepped) (stepped : Stepped) (after : World) (strap limit : ℕ) (locked meant : Bool) (before : World)
+    → r ≡ steppedOut (stepped .unit) (stepped .answer) (stepped .cost) (stepped .port)
+    → outcomeOf stepped after ≡ setUpOf strap limit locked before
     → locked ≡ meant
-    → returned r after ≡ returnedBy (setUpOf address limit meant before)
-a-set-up-passed-on r stepped after address limit locked meant before e due same =
-    passed-on r stepped after (setUpOf address limit meant before) e (due ∙ ap (λ b. setUpOf address limit b before) same)
+    → returned r after ≡ returnedBy (setUpOf strap limit meant before)
+a-set-up-passed-on r stepped after strap limit locked meant before e due same =
+    passed-on r stepped after (setUpOf strap limit meant before) e (due ∙ ap (λ b. setUpOf strap limit b before) same)
 
 pub a-step-passed-on
-    : (r : WheelStepped) (stepped : Stepped) (after : World) (u meant : Unit) (byte : ℕ) (before : World)
-    → r ≡ steppedOut (stepped .unit) (stepped .answer) (stepped .cost)
-    → outcomeOf stepped after ≡ stepOf u byte before
+    : (r : WheelStepped) (stepped : Stepped) (after : World) (u meant : Unit) (port byte : ℕ) (sending told : Sending) (before : World)
+    → r ≡ steppedOut (stepped .unit) (stepped .answer) (stepped .cost) (stepped .port)
+    → outcomeOf stepped after ≡ stepOf u port byte sending before
     → u ≡ meant
-    → returned r after ≡ returnedBy (stepOf meant byte before)
-a-step-passed-on r stepped after u meant byte before e due same =
-    passed-on r stepped after (stepOf meant byte before) e (due ∙ ap (λ v. stepOf v byte before) same)
+    → sending ≡ told
+    → returned r after ≡ returnedBy (stepOf meant port byte told before)
+a-step-passed-on r stepped after u meant port byte sending told before e due same flags =
+    passed-on r stepped after (stepOf meant port byte told before) e (due ∙ ap₂ (λ v s. stepOf v port byte s before) same flags)
 
 pub a-judgement-passed-on : (answer judged told : Bool) → answer ≡ judged → answer ≡ told → yesOut told ≡ yesOut judged
 a-judgement-passed-on answer judged told e is = ap yesOut (sym is ∙ e)

@@ -7,13 +7,16 @@ use Prim.Native.Nat.{ℕ}
 use Rattle.line.specs.Packing.{Packing}
 use Rattle.line.specs.declared.receiver.Place.{Place}
 use Rattle.line.specs.declared.receiver.Place.the-variants.{Fresh, Run, Escape, Fault}
+use Rattle.ports.specs.declared.Port.{Port}
+use Rattle.ports.specs.declared.Port.the-variants.{Hearing, Throwing}
+use Rattle.ports.specs.Ports.{countOf}
 use Rattle.carrying.specs.declared.Mode.{Mode}
 use Rattle.carrying.specs.declared.Mode.the-variants.{Bootloader, Application}
-use Rattle.unit.specs.World.{World, Outcome}
+use Rattle.commanding.specs.World.{World, Outcome}
 use Rattle.judging.specs.declared.Unit.{Unit}
 use Rattle.face.specs.declared.WheelStepped.{WheelStepped}
 use Rattle.face.specs.declared.WheelPacked.{WheelPacked}
-use Rattle.face.specs.Records.{modeIn, modeOut, placeIn, placeOut, lockIn, lockOut, unitIn, unitOut, Returned, returned, returnedBy, packingBy}
+use Rattle.face.specs.Records.{modeIn, modeOut, placeIn, placeOut, portIn, placeOutOf, lockIn, lockOut, unitIn, unitOut, Returned, returned, returnedBy, packingBy}
 
 pub a-call-allows-one-outcome
     : (o : Outcome) (r s : WheelStepped) (v w : World)
@@ -38,12 +41,17 @@ unfolding modeIn
 a-mode-comes-back Bootloader = refl
 a-mode-comes-back Application = refl
 
-a-place-comes-back : (place : Place) → placeIn (placeOut place) ≡ place
-unfolding placeIn
-a-place-comes-back Fresh = refl
-a-place-comes-back Run = refl
-a-place-comes-back Escape = refl
-a-place-comes-back Fault = refl
+a-receiver-comes-back : (place : Place) (count : ℕ) → portIn (placeOut place) count ≡ Hearing (record { place = place; count = count })
+unfolding portIn placeIn
+a-receiver-comes-back Fresh count = refl
+a-receiver-comes-back Run count = refl
+a-receiver-comes-back Escape count = refl
+a-receiver-comes-back Fault count = refl
+
+a-port-comes-back : (port : Port) → portIn (placeOutOf port) (countOf port) ≡ port
+unfolding portIn
+a-port-comes-back (Hearing receiver) = a-receiver-comes-back (receiver .place) (receiver .count)
+a-port-comes-back (Throwing count) = refl
 
 a-lock-comes-back : (locked : Bool) → lockIn (lockOut locked) ≡ locked
 a-lock-comes-back false = refl
@@ -51,4 +59,5 @@ a-lock-comes-back true = refl
 
 -- C can hand a record from one call to the next: it means the unit that the call left.
 pub a-record-comes-back : (u : Unit) → unitIn (unitOut u) ≡ u
-a-record-comes-back u = rw (a-mode-comes-back (u .mode), a-lock-comes-back (u .locked), a-place-comes-back (u .receiver .place))
+a-record-comes-back u =
+    rw (a-mode-comes-back (u .mode), a-lock-comes-back (u .locked), a-port-comes-back (u .ports .port0), a-port-comes-back (u .ports .port1))

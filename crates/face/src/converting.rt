@@ -4,12 +4,21 @@ use crate::WheelUnit;
 use answer::number_of;
 use answer::sent_of;
 use carrying::Mode;
+use commanding::Stepped;
+use judging::Unit;
 use line::receiver::Place;
 use line::receiver::Receiver;
-use unit::Stepped;
-use unit::Unit;
+use ports::Port;
+use ports::Ports;
+use ports::Sending;
+use ports::Side;
+use ports::count_of;
 ghost use mathlib.Core.Path.{_≡_};
-ghost use Rattle.face.specs.Records.{modeIn, modeOut, placeIn, placeOut, lockIn, lockOut, unitIn, unitOut, steppedOut};
+ghost use Rattle.ports.specs.Sides.{numberOfSide};
+ghost use Rattle.face.specs.Records.{modeIn, modeOut, placeIn, placeOut, portIn, placeOutOf, lockIn, lockOut, sendingIn, unitIn, unitOut, steppedOut};
+
+// The place of a run that is thrown away.
+const THROWN: u8 = 4;
 
 fn mode_in(number: u8) -> Mode
     ensures { λ r. ⌜ r ≡ modeIn number ⌝ }
@@ -56,6 +65,40 @@ fn place_out(place: Place) -> u8
     }
 }
 
+fn port_in(place: u8, count: u64) -> Port
+    ensures { λ r. ⌜ r ≡ portIn place count ⌝ }
+{
+    if place == THROWN {
+        return Port::Throwing(count as usize);
+    }
+    let stands = place_in(place);
+    Port::Hearing(Receiver {
+        place: stands,
+        count: count as usize,
+    })
+}
+
+fn place_out_of(port: Port) -> u8
+    ensures { λ r. ⌜ r ≡ placeOutOf port ⌝ }
+{
+    match port {
+        Port::Hearing(receiver) => {
+            let place = receiver.place;
+            place_out(place)
+        }
+        Port::Throwing(_) => THROWN,
+    }
+}
+
+fn side_out(side: Side) -> u8
+    ensures { λ r. ⌜ r ≡ numberOfSide side ⌝ }
+{
+    match side {
+        Side::Zero => 0,
+        Side::One => 1,
+    }
+}
+
 pub fn lock_in(number: u8) -> bool
     ensures { λ r. ⌜ r ≡ lockIn number ⌝ }
 {
@@ -68,22 +111,29 @@ fn lock_out(locked: bool) -> u8
     if locked { 1 } else { 0 }
 }
 
+pub fn sending_in(sending0: u8, sending1: u8) -> Sending
+    ensures { λ r. ⌜ r ≡ sendingIn sending0 sending1 ⌝ }
+{
+    Sending {
+        port0: sending0 != 0,
+        port1: sending1 != 0,
+    }
+}
+
 pub fn unit_in(lent: WheelUnit) -> Unit
     ensures { λ r. ⌜ r ≡ unitIn lent ⌝ }
 {
     let mode = mode_in(lent.mode);
-    let place = place_in(lent.place);
+    let port0 = port_in(lent.place0, lent.count0);
+    let port1 = port_in(lent.place1, lent.count1);
     Unit {
-        address: lent.address,
+        strap: lent.strap,
         limit: lent.limit,
         mode,
         locked: lock_in(lent.locked),
         bootloader_len: lent.bootloader_len as usize,
         fram_len: lent.fram_len as usize,
-        receiver: Receiver {
-            place,
-            count: lent.count as usize,
-        },
+        ports: Ports { port0, port1 },
     }
 }
 
@@ -91,30 +141,35 @@ fn unit_out(held: Unit) -> WheelUnit
     ensures { λ r. ⌜ r ≡ unitOut held ⌝ }
 {
     let mode = held.mode;
-    let receiver = held.receiver;
-    let place = receiver.place;
+    let ports = held.ports;
+    let port0 = ports.port0;
+    let port1 = ports.port1;
     WheelUnit {
         bootloader_len: held.bootloader_len as u64,
         fram_len: held.fram_len as u64,
-        count: receiver.count as u64,
+        count0: count_of(port0) as u64,
+        count1: count_of(port1) as u64,
         limit: held.limit,
-        address: held.address,
+        strap: held.strap,
         mode: mode_out(mode),
-        place: place_out(place),
+        place0: place_out_of(port0),
+        place1: place_out_of(port1),
         locked: lock_out(held.locked),
     }
 }
 
 pub fn stepped_out(stepped: Stepped) -> WheelStepped
-    ensures { λ r. ⌜ r ≡ steppedOut (stepped .unit) (stepped .answer) (stepped .cost) ⌝ }
+    ensures { λ r. ⌜ r ≡ steppedOut (stepped .unit) (stepped .answer) (stepped .cost) (stepped .port) ⌝ }
 {
     let held = stepped.unit;
     let answer = stepped.answer;
+    let side = stepped.port;
     let record = unit_out(held);
     WheelStepped {
         unit: record,
         sent: sent_of(answer) as u64,
         answer: number_of(answer),
+        port: side_out(side),
         cost: stepped.cost,
     }
 }

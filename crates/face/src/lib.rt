@@ -28,26 +28,29 @@ pub struct WheelJoined {
     pub part: WheelPart,
 }
 
-// A unit's record as C holds it: mode, place and lock by their numbers. The narrow fields come last, so that there is no gap between two.
+// A unit's record as C holds it: mode, places and lock by their numbers. The narrow fields come last, so that there is no gap between two.
 #[repr(C)]
 pub struct WheelUnit {
     pub bootloader_len: u64,
     pub fram_len: u64,
-    pub count: u64,
+    pub count0: u64,
+    pub count1: u64,
     pub limit: u16,
-    pub address: u8,
+    pub strap: u8,
     pub mode: u8,
-    pub place: u8,
+    pub place0: u8,
+    pub place1: u8,
     pub locked: u8,
 }
 
-// The unit's record afterwards, how many bytes of the reply buffer are to be sent, 01's number of the answer, and what a command cost, which stands
-// behind the answer, so that the answer is where it was before there were costs.
+// The unit's record afterwards, how many bytes of a reply buffer are to be sent, 01's number of the answer, the port on which they are to be sent,
+// from whose reply buffer, and what a command cost.
 #[repr(C)]
 pub struct WheelStepped {
     pub unit: WheelUnit,
     pub sent: u64,
     pub answer: u8,
+    pub port: u8,
     pub cost: u32,
 }
 

@@ -7,6 +7,9 @@ use Rattle.board.proofs.wheel_step.Tie as tie
 unit-in-requires : tie.Need-unit-in-requires
 unit-in-requires c κs = search needs
 
+sending-in-requires : tie.Need-sending-in-requires
+sending-in-requires c κs = search needs
+
 step-requires : tie.Need-step-requires
 step-requires c κs = search needs
 
@@ -37,14 +40,21 @@ same-length-7 c = search needs
 same-length-8 : tie.Need-same-length-8
 same-length-8 c = search needs
 
+same-length-9 : tie.Need-same-length-9
+same-length-9 c = search needs
+
+same-length-10 : tie.Need-same-length-10
+same-length-10 c = search needs
+
 returns : tie.Need-returns
-returns c = a-step-passed-on _ _ _ _ _ _ _ (c .stepped-out .ensures) (c .before .before .before .before .before .before .before .before .before .before .before .before .before .before .before .before .before .step .ensures) (c .before .before .before .before .before .before .before .before .before .before .before .before .before .before .before .before .before .before .before .before .before .before .before .before .before .before .unit-in .ensures)
+returns c = a-step-passed-on _ _ _ _ _ _ _ _ _ _ (c .stepped-out .ensures) (c .before .before .before .before .before .before .before .before .before .before .before .before .before .before .before .before .before .before .before .before .before .step .ensures) (c .before .before .before .before .before .before .before .before .before .before .before .before .before .before .before .before .before .before .before .before .before .before .before .before .before .before .before .before .before .before .before .before .before .unit-in .ensures) (c .before .before .before .before .before .before .before .before .before .before .before .before .before .before .before .before .before .before .before .before .before .before .before .before .before .before .before .before .before .before .before .before .sending-in .ensures)
 
 pub wheel-step-spec : {M : Type 1} → statement M
 wheel-step-spec =
     tie.close
     (tie.spec
     unit-in-requires
+    sending-in-requires
     step-requires
     stepped-out-requires
     same-length
@@ -55,4 +65,6 @@ wheel-step-spec =
     same-length-6
     same-length-7
     same-length-8
+    same-length-9
+    same-length-10
     returns)
