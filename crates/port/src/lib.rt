@@ -1,5 +1,6 @@
-// A program's way to the outside, on standard input and output: the bytes that flow in and out by way of one buffer. What was read
-// stands in its first half, what waits to be written in its second.
+// A program's way to the outside: port 0 on standard input and output, and the output of port 1 on a file, if there is one. The bytes
+// flow in and out by way of one buffer. What was read stands in its first half, what waits to be written in its second, for one port at
+// a time, so that replies are written in the order in which they left.
 use libc::STDIN_FILENO;
 use libc::STDOUT_FILENO;
 use line::framing::FEND;
@@ -14,7 +15,8 @@ const HALF: usize = 65_536;
 const LAST: usize = 129_004;
 
 // The byte to be fed, where the next one stands and where those that were read end, from where to where bytes wait to be
-// written, how many bytes were written and how many of these were FEND, and 1 while input and output are still there, then 0.
+// written, and for which port, the file of port 1, or 0 where there is none, how many bytes were written on port 0 and how many
+// of these were FEND, how many replies left on port 1, and 1 while input and output are still there, then 0.
 // Every field has 64 bits, so that a copy has no gaps: on the way through a loop those cost more than all the rest.
 pub struct Flow {
     pub byte: u64,
@@ -22,20 +24,26 @@ pub struct Flow {
     pub end: usize,
     pub from: usize,
     pub to: usize,
+    pub port: u64,
+    pub file1: u64,
     pub bytes: u64,
     pub fends: u64,
+    pub left1: u64,
     pub open: u64,
 }
 
-pub fn fresh() -> Flow {
+pub fn fresh(file1: u64) -> Flow {
     Flow {
         byte: 0,
         next: 0,
         end: 0,
         from: HALF,
         to: HALF,
+        port: 0,
+        file1,
         bytes: 0,
         fends: 0,
+        left1: 0,
         open: 1,
     }
 }
@@ -55,7 +63,7 @@ fn failed(flow: Flow, is_input: bool) -> Flow {
     if is_input {
         report::read_failed(error);
     } else {
-        report::write_failed(error);
+        report::write_failed(flow.port, error);
     }
     closed(flow)
 }
@@ -75,13 +83,23 @@ fn fends(bytes: &[u8]) -> u64 {
 fn written(flow: Flow, taken: &[u8]) -> Flow {
     let mut now = flow;
     now.from = std::num::wrapping_add_usize(now.from, taken.len());
-    now.bytes = std::num::wrapping_add_u64(now.bytes, taken.len() as u64);
-    now.fends = std::num::wrapping_add_u64(now.fends, fends(taken));
+    if now.port == 0 {
+        now.bytes = std::num::wrapping_add_u64(now.bytes, taken.len() as u64);
+        now.fends = std::num::wrapping_add_u64(now.fends, fends(taken));
+    }
     if now.from >= now.to {
         now.from = HALF;
         now.to = HALF;
     }
     now
+}
+
+// The file to which what waits is written.
+fn file_of(flow: Flow) -> i32 {
+    if flow.port == 0 {
+        return STDOUT_FILENO;
+    }
+    (flow.file1 % 1_024) as i32
 }
 
 // Writes once of what waits.
@@ -95,13 +113,13 @@ fn write_once(flow: Flow, buffer: &[u8]) -> Flow {
         return closed(flow);
     }
     let waiting = &buffer[from..to];
-    let got = libc::write(STDOUT_FILENO, waiting);
+    let got = libc::write(file_of(flow), waiting);
     if got < 0 {
         return failed(flow, false);
     }
     let n = io::count(got, waiting);
     if n == 0 {
-        report::takes_nothing();
+        report::takes_nothing(flow.port);
         return closed(flow);
     }
     written(flow, &waiting[..n])
@@ -157,12 +175,26 @@ fn taken(flow: Flow, buffer: &Buffer) -> Flow {
     now
 }
 
+// Whether bytes wait for another port than this one.
+fn is_held_up(flow: Flow, port: u64) -> bool {
+    flow.open > 0 && flow.port != port && flow.from < flow.to
+}
+
+// The flow with nothing waiting but for this port: what waits for the other is written.
+fn turned(flow: Flow, port: u64, buffer: &[u8]) -> Flow {
+    let mut now = flow;
+    let mut turns = u64::MAX;
+    while turns > 0 && is_held_up(now, port) {
+        now = write_once(now, buffer);
+        turns -= 1;
+    }
+    now.port = port;
+    now
+}
+
 // Puts a reply behind what waits. There is room for it: a byte is fed only where the longest reply has some.
 fn queued(flow: Flow, sent: usize, reply: &[u8], buffer: &mut [u8]) -> Flow {
     let at = flow.to;
-    if sent == 0 {
-        return flow;
-    }
     if sent > reply.len() {
         return closed(flow);
     }
@@ -178,6 +210,35 @@ fn queued(flow: Flow, sent: usize, reply: &[u8], buffer: &mut [u8]) -> Flow {
     now
 }
 
+// A reply on port 1: put behind what waits for its file, or told where there is none.
+fn left_on_port1(flow: Flow, sent: usize, reply: &[u8], buffer: &mut [u8]) -> Flow {
+    let mut now = flow;
+    now.left1 = std::num::wrapping_add_u64(now.left1, 1);
+    if now.file1 == 0 {
+        report::left_on_port1(sent as u64);
+        return now;
+    }
+    queued(turned(now, 1, buffer), sent, reply, buffer)
+}
+
+// A reply of so many bytes on its way, from the reply buffer of its port.
+fn sent_off(
+    flow: Flow,
+    sent: usize,
+    port: u64,
+    reply0: &[u8],
+    reply1: &[u8],
+    buffer: &mut [u8],
+) -> Flow {
+    if sent == 0 {
+        return flow;
+    }
+    if port == 0 {
+        return queued(turned(flow, 0, buffer), sent, reply0, buffer);
+    }
+    left_on_port1(flow, sent, reply1, buffer)
+}
+
 // The flow with its next byte, or at its end. Where the bytes of the last read are used up, what waits is written before the
 // next read.
 fn filled(flow: Flow, buffer: &mut Buffer) -> Flow {
@@ -190,9 +251,16 @@ fn filled(flow: Flow, buffer: &mut Buffer) -> Flow {
     taken(now, buffer)
 }
 
-// The flow with its next byte, after a reply of so many bytes was put behind what waits.
-pub fn answered(flow: Flow, sent: usize, reply: &[u8; 2068], buffer: &mut Buffer) -> Flow {
-    filled(queued(flow, sent, reply, buffer), buffer)
+// The flow with its next byte, after a reply of so many bytes left on a port, of those of 0 and 1 whose reply buffers are lent.
+pub fn answered(
+    flow: Flow,
+    sent: usize,
+    port: u64,
+    reply0: &[u8; 2068],
+    reply1: &[u8; 2068],
+    buffer: &mut Buffer,
+) -> Flow {
+    filled(sent_off(flow, sent, port, reply0, reply1, buffer), buffer)
 }
 
 // How many turns are left: none once input or output is at its end. A proved loop has to end, and nothing says that the input

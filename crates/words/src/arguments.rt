@@ -1,10 +1,15 @@
-// The program's arguments: a unit address, a size of FRAM, a limit and a size of bootloader FRAM, each in decimal, or in hexadecimal
-// after 0x; and whether bootloader FRAM is locked, in a word.
+// The program's arguments: a strap, a size of FRAM, a limit, a size of bootloader FRAM and a file for port 1, each in decimal, or in
+// hexadecimal after 0x; and whether bootloader FRAM is locked, in a word.
 
 ghost use Prim.Native.Nat.{_≤_};
 
 // What a word stands for that is no number, or a larger one than any that is asked for.
 const BAD: u64 = 0xffff_ffff;
+
+// The first file descriptor that may be port 1, behind the standard ones, and the first that may not.
+const FIRST_FILE: u64 = 3;
+
+pub const NO_FILE: u64 = 1024;
 
 // What a digit counts, and 16 for a byte that is none.
 fn digit(byte: u8) -> u8 {
@@ -69,11 +74,11 @@ fn argument(place: usize, otherwise: u64) -> u64 {
     number(&text[..length])
 }
 
-// The unit address that was asked for, and 0, which no unit has, where it is no byte. Which others no unit has is for the unit to say.
-pub fn address() -> u8 {
-    let number = argument(1, 0x41);
+// The strap that was asked for, and 255, which no unit has, where it is no byte. Which others no unit has is for the unit to say.
+pub fn strap() -> u8 {
+    let number = argument(1, 1);
     if number > 255 {
-        return 0;
+        return 255;
     }
     number as u8
 }
@@ -134,6 +139,21 @@ pub fn lock() -> Locking {
         return Locking::Locked;
     }
     Locking::Neither
+}
+
+// The file descriptor that was asked for, for replies on port 1; 0 where there is none, and `NO_FILE` where it can be none.
+pub fn port1() -> u64 {
+    if os::arg_count() <= 6 {
+        return 0;
+    }
+    let number = argument(6, 0);
+    if number < FIRST_FILE {
+        return NO_FILE;
+    }
+    if number > NO_FILE {
+        return NO_FILE;
+    }
+    number
 }
 
 // Whether the first argument asks for help.

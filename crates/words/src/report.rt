@@ -12,7 +12,7 @@ fn said(words: &[u8]) {
 fn usage_to(file: i32) {
     io::write_all(
         file,
-        b"usage: wheel [ADDRESS [FRAM [LIMIT [BOOTLOADER [LOCK]]]]]\n",
+        b"usage: wheel [STRAP [FRAM [LIMIT [BOOTLOADER [LOCK [PORT1]]]]]]\n",
     );
 }
 
@@ -20,16 +20,20 @@ pub fn help() {
     usage_to(STDOUT_FILENO);
     io::write_all(
         STDOUT_FILENO,
-        b"A reaction wheel's command unit: the line's bytes on standard input, its replies on standard output, and at the end on\n\
-        standard error how often each answer came, which diagnostics moved, whether bootloader FRAM is locked, the largest\n\
-        cost of a CRC command, as a count of bytes and blocks, and what was written.\n\
-        \x20 ADDRESS     1 to 255, but not 0xC0 or 0xDB; 0x41 if there is none\n\
+        b"A reaction wheel's command unit. Port 0 is standard input and standard output. On port 1 nothing comes in, and what leaves\n\
+        there is written to a file or told. Neither is ever sending. The unit hears 0x60+STRAP, which it answers on port 0, and\n\
+        0x40+STRAP, which it answers on port 1. At the end it says on standard error how often each answer came, which\n\
+        diagnostics moved, whether bootloader FRAM is locked, the largest cost of a CRC command, as a count of bytes and blocks,\n\
+        what was written on port 0, and how many replies left on port 1.\n\
+        \x20 STRAP       0 to 7; 1 if there is none\n\
         \x20 FRAM        bytes of user FRAM, a multiple of 256 from 256 to 262144; 65536 if there is none\n\
         \x20 LIMIT       the most data bytes of a message, 260 to 1028; 1028 if there is none\n\
         \x20 BOOTLOADER  bytes of bootloader FRAM, as those of FRAM\n\
         \x20 LOCK        whether bootloader FRAM is locked: locked, or unlocked, as it is if there is none\n\
+        \x20 PORT1       the number of an open file descriptor, 3 to 1023, for replies on port 1; if there is none, a line on\n\
+        \x20             standard error tells of each\n\
         Numbers are decimal, or hexadecimal after 0x. A PING and its reply:\n\
-        \x20 printf '\\xc0\\x41\\x11\\x80\\xd8\\x6d\\xc0' | ./run | od -An -tx1z\n",
+        \x20 printf '\\xc0\\x61\\x11\\x80\\xe3\\x6e\\xc0' | ./run | od -An -tx1z\n",
     );
 }
 
@@ -37,8 +41,8 @@ pub fn usage() {
     usage_to(STDERR_FILENO);
 }
 
-pub fn bad_address() {
-    said(b"wheel: ADDRESS is a number from 1 to 255, but not 0xC0 or 0xDB; ");
+pub fn bad_strap() {
+    said(b"wheel: STRAP is a number from 0 to 7; ");
     usage();
 }
 
@@ -62,6 +66,11 @@ pub fn bad_lock() {
     usage();
 }
 
+pub fn bad_port1() {
+    said(b"wheel: PORT1 is a number from 3 to 1023; ");
+    usage();
+}
+
 pub fn read_failed(error: i32) {
     if error == libc::EAGAIN {
         said(b"wheel: standard input would block: O_NONBLOCK is set on it; open it without\n");
@@ -70,7 +79,7 @@ pub fn read_failed(error: i32) {
     }
 }
 
-pub fn write_failed(error: i32) {
+fn output_failed(error: i32) {
     if error == libc::EAGAIN {
         said(b"wheel: standard output would block: O_NONBLOCK is set on it; open it without\n");
     } else {
@@ -78,8 +87,29 @@ pub fn write_failed(error: i32) {
     }
 }
 
-pub fn takes_nothing() {
-    said(b"wheel: standard output takes no bytes\n");
+fn port1_failed(error: i32) {
+    if error == libc::EAGAIN {
+        said(b"wheel: the file of port 1 would block: O_NONBLOCK is set on it; open it without\n");
+    } else {
+        os::fail(b"wheel: cannot write the file of port 1");
+    }
+}
+
+// Of a port's output.
+pub fn write_failed(port: u64, error: i32) {
+    if port == 0 {
+        output_failed(error);
+    } else {
+        port1_failed(error);
+    }
+}
+
+pub fn takes_nothing(port: u64) {
+    if port == 0 {
+        said(b"wheel: standard output takes no bytes\n");
+    } else {
+        said(b"wheel: the file of port 1 takes no bytes\n");
+    }
 }
 
 // A line with a name and a number.
@@ -87,6 +117,13 @@ fn line(name: &[u8], value: u64) {
     said(name);
     io::print_decimal(STDERR_FILENO, value);
     said(b"\n");
+}
+
+// A reply that left on port 1, where there is no file for it.
+pub fn left_on_port1(length: u64) {
+    said(b"wheel: a reply of ");
+    io::print_decimal(STDERR_FILENO, length);
+    said(b" bytes left on port 1\n");
 }
 
 // A line with a name, a place and the number there, unless that is 0.
@@ -141,6 +178,7 @@ pub fn ended(
     largest: u32,
     bytes: u64,
     fends: u64,
+    left1: u64,
 ) {
     answers(tally);
     diagnostics(values);
@@ -148,6 +186,7 @@ pub fn ended(
     line(b"largest cost of a CRC: ", largest as u64);
     line(b"replies written: ", fends / 2);
     line(b"bytes written: ", bytes);
+    line(b"replies left on port 1: ", left1);
 }
 
 // One more answer of its number.

@@ -7,11 +7,11 @@ use Rattle.wheel.proofs.run.Statement.{statement}
 use Rattle.wheel.proofs.run.Tie as tie
 
 abbrev Inv-loop : tie.InvT-loop
-Inv-loop address limit locked edac₀ bootloader₀ bootloader-sums₀ fram₀ sums₀ diagnostics₀ message₀ reply₀ buffer₀ tally₀ largest₀ fed₀ flow₀ turns₀ edac bootloader bootloader-sums fram sums diagnostics message reply buffer tally largest fed flow turns =
+Inv-loop strap limit locked file1 edac₀ bootloader₀ bootloader-sums₀ fram₀ sums₀ diagnostics₀ message0₀ reply0₀ message1₀ reply1₀ buffer₀ tally₀ largest₀ fed₀ flow₀ turns₀ edac bootloader bootloader-sums fram sums diagnostics message0 reply0 message1 reply1 buffer tally largest fed flow turns =
     (0 < turns) × (length bootloader ≡ length bootloader₀) × (length bootloader-sums ≡ length bootloader-sums₀) × (length fram ≡ length fram₀) × (length sums ≡ length sums₀)
 
 abbrev μ-loop : tie.MeasureT-loop
-μ-loop address limit locked edac₀ bootloader₀ bootloader-sums₀ fram₀ sums₀ diagnostics₀ message₀ reply₀ buffer₀ tally₀ largest₀ fed₀ flow₀ turns₀ edac bootloader bootloader-sums fram sums diagnostics message reply buffer tally largest fed flow turns =
+μ-loop strap limit locked file1 edac₀ bootloader₀ bootloader-sums₀ fram₀ sums₀ diagnostics₀ message0₀ reply0₀ message1₀ reply1₀ buffer₀ tally₀ largest₀ fed₀ flow₀ turns₀ edac bootloader bootloader-sums fram sums diagnostics message0 reply0 message1 reply1 buffer tally largest fed flow turns =
     turns
 
 begun-requires : tie.Need-begun-requires Inv-loop μ-loop
@@ -42,29 +42,29 @@ larger-requires : tie.Need-larger-requires Inv-loop μ-loop
 larger-requires c κs = tt
 
 loop-less : tie.Need-loop-less Inv-loop μ-loop
-loop-less c = c .before .before .before .before .before .before .before .before .before .before .before .before .before .before .before .before .before .before .before .before .before .before .left .ensures (c .before .before .before .before .before .before .before .before .before .before .before .before .before .before .before .before .before .before .before .before .before .before .before .before .before .before .loop .inv .0)
+loop-less c = c .before .before .before .before .before .before .before .before .before .before .before .before .before .before .before .before .before .before .before .before .before .before .before .before .left .ensures (c .before .before .before .before .before .before .before .before .before .before .before .before .before .before .before .before .before .before .before .before .before .before .before .before .before .before .before .before .before .loop .inv .0)
 
 loop-again : tie.Need-loop-again Inv-loop μ-loop
 loop-again c =
-    let more = c .before .before .before .before .before .before .before .before .before .before .before .before .before .before .before .before .before .before .before .before .before .if1 .left in
+    let more = c .before .before .before .before .before .before .before .before .before .before .before .before .before .before .before .before .before .before .before .before .before .before .before .if1 .left in
     let kept = c .before .before .before .before .before .before .before .before .before .before .before .feed .kept in
-    let inv = c .before .before .before .before .before .before .before .before .before .before .before .before .before .before .before .before .before .before .before .before .before .before .before .before .before .before .loop .inv in
+    let inv = c .before .before .before .before .before .before .before .before .before .before .before .before .before .before .before .before .before .before .before .before .before .before .before .before .before .before .before .before .before .loop .inv in
     (omega (arith, more), kept .1 .1 .1 .0 ∙ inv .1, kept .1 .1 .1 .1 .0 ∙ inv .2, kept .1 .1 .1 .1 .1 .0 ∙ inv .3, kept .1 .1 .1 .1 .1 .1 .0 ∙ inv .4)
 
 ended-requires : tie.Need-ended-requires Inv-loop μ-loop
 ended-requires c κs = tt
 
 same-length : tie.Need-same-length Inv-loop μ-loop
-same-length c = c .before .before .before .before .before .before .before .before .before .loop .inv .1
+same-length c = c .before .before .before .before .before .before .before .before .before .before .loop .inv .1
 
 same-length-2 : tie.Need-same-length-2 Inv-loop μ-loop
-same-length-2 c = c .before .before .before .before .before .before .before .before .before .loop .inv .2 ∙ c .before .before .before .before .before .before .before .before .before .before .before .before .before .before .before .begun .kept .1 .1 .1 .1 .1 .0
+same-length-2 c = c .before .before .before .before .before .before .before .before .before .before .loop .inv .2 ∙ c .before .before .before .before .before .before .before .before .before .before .before .before .before .before .before .before .begun .kept .1 .1 .1 .1 .1 .0
 
 same-length-3 : tie.Need-same-length-3 Inv-loop μ-loop
-same-length-3 c = c .before .before .before .before .before .before .before .before .before .loop .inv .3
+same-length-3 c = c .before .before .before .before .before .before .before .before .before .before .loop .inv .3
 
 same-length-4 : tie.Need-same-length-4 Inv-loop μ-loop
-same-length-4 c = c .before .before .before .before .before .before .before .before .before .loop .inv .4 ∙ c .before .before .before .before .before .before .before .before .before .before .before .before .before .before .before .begun .kept .1 .1 .1 .1 .1 .1 .1 .0
+same-length-4 c = c .before .before .before .before .before .before .before .before .before .before .loop .inv .4 ∙ c .before .before .before .before .before .before .before .before .before .before .before .before .before .before .before .before .begun .kept .1 .1 .1 .1 .1 .1 .1 .0
 
 returns : tie.Need-returns Inv-loop μ-loop
 returns c = tt
