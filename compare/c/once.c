@@ -1,14 +1,20 @@
 /* One call of the C face, for an instruction count: `once crc LENGTH` over zeros, `once join LENGTH`, `once set_up LENGTH` with
    so much user FRAM and the least bootloader FRAM, `once both LENGTH` with so much of each, `once last CODE`, the FEND after the
-   dearest message known of that command, `once ask 8` and `once write 8`, the list of that message judged and stored; `once user
-   FIRST LAST COST` and `once boot FIRST LAST COST`, the FEND after a CRC command over those bytes of user or bootloader FRAM, each
-   of 262,144, counted from its first, which costs that; and LENGTH calls: `once step LENGTH`, of ordinary bytes in a run. It fails
-   where an answer or a cost is not the one that is due. */
+   dearest message known of that command, on port 0 with its reply on port 1, where it throws a run away, `once ask 8` and `once
+   write 8`, the list of that message judged and stored; `once user FIRST LAST COST` and `once boot FIRST LAST COST`, the FEND after
+   a CRC command over those bytes of user or bootloader FRAM, each of 262,144, counted from its first, which costs that, by the same
+   ports; and LENGTH calls: `once step LENGTH`, of ordinary bytes in a run. It fails where an answer or a cost is not the one that is
+   due. */
 #include "wheel.h"
 
 #include <stdio.h>
 #include <stdlib.h>
 #include <string.h>
+
+enum { STRAP = 1 };
+
+/* A byte on port 0, while neither port is sending. */
+static unsigned fed(struct wheel *wheel, uint8_t byte) { return wheel_byte(wheel, 0, byte, WHEEL_SILENT, WHEEL_SILENT); }
 
 /* The data of a command that costs much: its length. */
 static size_t dear(unsigned long code, uint8_t *data) {
@@ -81,16 +87,22 @@ int main(int count, char **words) {
         static struct wheel wheel = {.edac = edac,
                                      .bootloader = {bootloader, WHEEL_FRAM_LEAST, bootloader_sums},
                                      .user = {user, WHEEL_FRAM_LEAST, user_sums}};
-        const struct wheel_unit unit = {
-            WHEEL_FRAM_LEAST, WHEEL_FRAM_LEAST, 0, WHEEL_LIMIT_MOST, 0x41, WHEEL_BOOTLOADER, WHEEL_RUN, WHEEL_UNLOCKED};
+        const struct wheel_unit unit = {.bootloader_len = WHEEL_FRAM_LEAST,
+                                        .fram_len = WHEEL_FRAM_LEAST,
+                                        .limit = WHEEL_LIMIT_MOST,
+                                        .strap = STRAP,
+                                        .mode = WHEEL_BOOTLOADER,
+                                        .place0 = WHEEL_RUN,
+                                        .place1 = WHEEL_RUN,
+                                        .locked = WHEEL_UNLOCKED};
         wheel.now.unit = unit;
         if (strcmp(words[1], "set_up") == 0 || strcmp(words[1], "both") == 0) {
             wheel.user.length = number;
             wheel.bootloader.length = words[1][0] == 'b' ? number : WHEEL_FRAM_LEAST;
-            return wheel_begin(&wheel, 0x41, WHEEL_LIMIT_MOST, WHEEL_UNLOCKED) != WHEEL_TAKEN;
+            return wheel_begin(&wheel, STRAP, WHEEL_LIMIT_MOST, WHEEL_UNLOCKED) != WHEEL_TAKEN;
         }
         if (range || strcmp(words[1], "last") == 0) {
-            uint8_t *message = wheel.message;
+            uint8_t *message = wheel.ports[0].message;
             const size_t end = 3 + dear(number, message + 3);
             if (range) { /* with as many bytes 0xC0 in the reply as the range allows: each is packed as two */
                 const unsigned long first = words[1][0] == 'u' ? WHEEL_USER_FRAM_FIRST : WHEEL_BOOTLOADER_FRAM_FIRST;
@@ -102,7 +114,7 @@ int main(int count, char **words) {
                 wheel.bootloader.length = WHEEL_FRAM_MOST;
                 wheel.now.unit.bootloader_len = WHEEL_FRAM_MOST;
             }
-            message[0] = 0x41;
+            message[0] = WHEEL_0_ANSWERED_ON_1 + STRAP;
             message[2] = (uint8_t)(0x80 + number);
             message[end + 1] = (uint8_t)(crc(message, end) >> 8);
             message[end] = (uint8_t)crc(message, end);
@@ -110,18 +122,20 @@ int main(int count, char **words) {
             wheel.user.length = WHEEL_FRAM_MOST;
             wheel.now.unit.fram_len = WHEEL_FRAM_MOST;
             wheel.now.unit.mode = WHEEL_APPLICATION;
-            wheel.now.unit.count = end + 2;
-            return wheel_byte(&wheel, 0xC0) != WHEEL_ACKED || (range && wheel.now.cost != strtoul(words[4], NULL, 10));
+            wheel.now.unit.count0 = end + 2;
+            /* A run is open on the port of the reply, and is thrown away. */
+            wheel.now.unit.count1 = 1;
+            return fed(&wheel, 0xC0) != WHEEL_ACKED || wheel.now.port != 1 || (range && wheel.now.cost != strtoul(words[4], NULL, 10));
         }
         if (strcmp(words[1], "step") != 0) {
             return 1;
         }
         for (unsigned long i = 0; i < number; i++) {
-            if (wheel_byte(&wheel, 0x41) != WHEEL_TAKEN) {
+            if (fed(&wheel, 0x41) != WHEEL_TAKEN) {
                 return 1;
             }
         }
-        return wheel.now.unit.count != number;
+        return wheel.now.unit.count0 != number;
     } else {
         return 1;
     }

@@ -1,6 +1,7 @@
 /* The C face's records across the boundary: every field of a record goes in and comes out as it was, with every other field
  * at odds with it; numbers out of range mean what the header says; every refusal has its number, costs nothing and changes nothing;
- * what a CRC command costs comes out beside the record and the number. */
+ * what a CRC command costs comes out beside the record and the number, and so does the port of a reply, which stands in the buffer
+ * of that port. */
 #include "wheel.h"
 
 #include <stdio.h>
@@ -12,7 +13,8 @@
 #define SUMS (FRAM / WHEEL_FRAM_BLOCK)
 
 struct lent {
-    uint8_t edac[WHEEL_EDAC], bootloader[BOOT], fram[FRAM], message[WHEEL_MESSAGE], reply[WHEEL_REPLY];
+    uint8_t edac[WHEEL_EDAC], bootloader[BOOT], fram[FRAM];
+    struct wheel_port ports[2];
     uint16_t bootloader_sums[BOOT_SUMS], sums[SUMS];
     uint32_t diagnostics[WHEEL_DIAGNOSTICS];
 };
@@ -29,35 +31,53 @@ static void same(const char *name, unsigned long long came, unsigned long long d
 
 /* The lengths that are lent, one of which a test makes wrong. */
 struct lengths {
-    size_t edac, bootloader, bootloader_sums, fram, sums, diagnostics, message, reply;
+    size_t edac, bootloader, bootloader_sums, fram, sums, diagnostics, message[2], reply[2];
 };
 
-static const struct lengths right = {WHEEL_EDAC, BOOT, BOOT_SUMS, FRAM, SUMS, WHEEL_DIAGNOSTICS, WHEEL_MESSAGE, WHEEL_REPLY};
+static const struct lengths right = {.edac = WHEEL_EDAC,
+                                     .bootloader = BOOT,
+                                     .bootloader_sums = BOOT_SUMS,
+                                     .fram = FRAM,
+                                     .sums = SUMS,
+                                     .diagnostics = WHEEL_DIAGNOSTICS,
+                                     .message = {WHEEL_MESSAGE, WHEEL_MESSAGE},
+                                     .reply = {WHEEL_REPLY, WHEEL_REPLY}};
 
-static struct wheel_stepped step(struct wheel_unit unit, uint8_t byte, struct lengths n) {
-    return wheel_step(unit, byte, lent.edac, n.edac, lent.bootloader, n.bootloader, lent.bootloader_sums, n.bootloader_sums,
-                      lent.fram, n.fram, lent.sums, n.sums, lent.diagnostics, n.diagnostics, lent.message, n.message,
-                      lent.reply, n.reply);
+/* Whether each port is sending, which a test says. */
+static uint8_t sending[2];
+
+static struct wheel_stepped step_on(uint8_t port, struct wheel_unit unit, uint8_t byte, struct lengths n) {
+    return wheel_step(unit, port, byte, sending[0], sending[1], lent.edac, n.edac, lent.bootloader, n.bootloader,
+                      lent.bootloader_sums, n.bootloader_sums, lent.fram, n.fram, lent.sums, n.sums, lent.diagnostics,
+                      n.diagnostics, lent.ports[0].message, n.message[0], lent.ports[0].reply, n.reply[0],
+                      lent.ports[1].message, n.message[1], lent.ports[1].reply, n.reply[1]);
 }
 
-static struct wheel_stepped set_up_as(uint8_t address, uint64_t limit, uint8_t locked, struct lengths n) {
-    return wheel_set_up(address, limit, locked, lent.edac, n.edac, lent.bootloader, n.bootloader, lent.bootloader_sums,
-                        n.bootloader_sums, lent.fram, n.fram, lent.sums, n.sums, lent.diagnostics, n.diagnostics, lent.message,
-                        n.message, lent.reply, n.reply);
+static struct wheel_stepped step(struct wheel_unit unit, uint8_t byte, struct lengths n) { return step_on(0, unit, byte, n); }
+
+static struct wheel_stepped set_up_as(uint8_t strap, uint64_t limit, uint8_t locked, struct lengths n) {
+    return wheel_set_up(strap, limit, locked, lent.edac, n.edac, lent.bootloader, n.bootloader, lent.bootloader_sums,
+                        n.bootloader_sums, lent.fram, n.fram, lent.sums, n.sums, lent.diagnostics, n.diagnostics,
+                        lent.ports[0].message, n.message[0], lent.ports[0].reply, n.reply[0], lent.ports[1].message,
+                        n.message[1], lent.ports[1].reply, n.reply[1]);
 }
 
-static struct wheel_stepped set_up(uint8_t address, uint64_t limit, struct lengths n) {
-    return set_up_as(address, limit, WHEEL_UNLOCKED, n);
+enum { STRAP = 1, HEARD = WHEEL_0_ANSWERED_ON_1 + STRAP };
+
+static struct wheel_stepped set_up(uint64_t limit, struct lengths n) {
+    return set_up_as(STRAP, limit, WHEEL_UNLOCKED, n);
 }
 
 static void same_unit(const char *name, struct wheel_unit came, struct wheel_unit due) {
     same(name, came.bootloader_len, due.bootloader_len);
     same(name, came.fram_len, due.fram_len);
-    same(name, came.count, due.count);
+    same(name, came.count0, due.count0);
+    same(name, came.count1, due.count1);
     same(name, came.limit, due.limit);
-    same(name, came.address, due.address);
+    same(name, came.strap, due.strap);
     same(name, came.mode, due.mode);
-    same(name, came.place, due.place);
+    same(name, came.place0, due.place0);
+    same(name, came.place1, due.place1);
     same(name, came.locked, due.locked);
 }
 
@@ -65,6 +85,7 @@ static void same_unit(const char *name, struct wheel_unit came, struct wheel_uni
 static void silent(const char *name, struct wheel_stepped came, unsigned answer, unsigned cost, struct wheel_unit due) {
     same(name, came.answer, answer);
     same(name, came.sent, 0);
+    same(name, came.port, 0);
     same(name, came.cost, cost);
     same_unit(name, came.unit, due);
     same(name, (unsigned long long)memcmp(&lent, &before, sizeof lent), 0);
@@ -75,7 +96,7 @@ static void refused(const char *name, struct wheel_stepped came, unsigned answer
 }
 
 /* The record of a refused set-up. */
-static const struct wheel_unit nobody = {0, 0, 0, 0, 0, 0, 0, 0};
+static const struct wheel_unit nobody = {.strap = WHEEL_STRAP_MOST + 1};
 
 /* Limits that no unit has, with all their bits: only the first NARROW of them fit in a record. */
 enum { NARROW = 6, NO_LIMITS = 10 };
@@ -86,41 +107,45 @@ static const uint64_t no_limits[NO_LIMITS] = {
  * set up with the highest. */
 static void limits(struct wheel_unit fresh) {
     for (size_t i = 0; i < NO_LIMITS; i++) {
-        refused("set-up 29", set_up(0x41, no_limits[i], right), WHEEL_BAD_LIMIT, nobody);
+        refused("set-up 29", set_up(no_limits[i], right), WHEEL_BAD_LIMIT, nobody);
         struct lengths n = right;
-        n.reply--;
-        refused("set-up 25 first", set_up(0x41, no_limits[i], n), WHEEL_BAD_BUFFERS, nobody);
+        n.reply[i % 2]--;
+        refused("set-up 25 first", set_up(no_limits[i], n), WHEEL_BAD_BUFFERS, nobody);
     }
     struct wheel_unit unit = fresh;
-    for (unsigned place = 0; place < 4; place++) {
+    for (unsigned place = 0; place < 5; place++) {
         for (size_t i = 0; i < NARROW; i++) {
-            unit.place = (uint8_t)place;
+            unit.place0 = (uint8_t)place;
             unit.limit = (uint16_t)no_limits[i];
-            unit.count = 1034;
+            unit.count0 = 1034;
             refused("step 29", step(unit, 0xC0, right), WHEEL_BAD_LIMIT, unit);
-            unit.count = 1035;
+            refused("step 27 first", step_on(2, unit, 0xC0, right), WHEEL_BAD_PORT, unit);
+            unit.count0 = 1035;
             refused("step 26 first", step(unit, 0xC0, right), WHEEL_BAD_COUNT, unit);
         }
     }
     for (unsigned limit = WHEEL_LIMIT_LEAST; limit <= WHEEL_LIMIT_MOST; limit++) {
         unit = fresh;
         unit.limit = (uint16_t)limit;
-        refused("a limit set up", set_up(0x41, limit, right), WHEEL_TAKEN, unit);
-        unit.count = 1034;
+        refused("a limit set up", set_up(limit, right), WHEEL_TAKEN, unit);
+        unit.count0 = 1034;
         refused("a limit kept", step(unit, 0x55, right), WHEEL_TAKEN, unit);
     }
     /* The count that makes a run too long, and what no unit of this limit counts to. */
-    const struct wheel_unit after = {BOOT, FRAM, 0, 300, 0x41, WHEEL_APPLICATION, WHEEL_RUN, WHEEL_UNLOCKED};
+    struct wheel_unit after = fresh;
+    after.limit = 300;
+    after.mode = WHEEL_APPLICATION;
+    after.place0 = WHEEL_RUN;
     struct wheel_unit run = after;
-    run.count = 305;
+    run.count0 = 305;
     before.diagnostics[10]++;
     refused("305 bytes under 300", step(run, 0xC0, right), WHEEL_BAD_CRC, after);
     struct wheel_unit full = after;
-    full.count = 306;
+    full.count0 = 306;
     refused("the 306th under 300", step(run, 0x55, right), WHEEL_TAKEN, full);
     before.diagnostics[9]++;
     refused("306 bytes under 300", step(full, 0xC0, right), WHEEL_OVERSIZE, after);
-    run.count = 1034;
+    run.count0 = 1034;
     refused("1,034 stay under 300", step(run, 0x55, right), WHEEL_TAKEN, run);
     before.diagnostics[9]++;
     refused("1,034 bytes under 300", step(run, 0xC0, right), WHEEL_OVERSIZE, after);
@@ -142,14 +167,14 @@ static void locks(struct wheel_unit fresh) {
         struct lengths n = right;
         n.diagnostics--;
         refused("a refused record's lock", step(unit, 0x55, n), WHEEL_BAD_DIAGNOSTICS, due);
-        refused("a lock and a refused set-up", set_up_as(0x41, WHEEL_LIMIT_MOST, unit.locked, n), WHEEL_BAD_DIAGNOSTICS, nobody);
-        refused("a lock and no limit", set_up_as(0x41, 0, unit.locked, right), WHEEL_BAD_LIMIT, nobody);
+        refused("a lock and a refused set-up", set_up_as(STRAP, WHEEL_LIMIT_MOST, unit.locked, n), WHEEL_BAD_DIAGNOSTICS, nobody);
+        refused("a lock and no limit", set_up_as(STRAP, 0, unit.locked, right), WHEEL_BAD_LIMIT, nobody);
         before.diagnostics[WHEEL_FRAM_STATUS] = lent.diagnostics[WHEEL_FRAM_STATUS] = 0xFFFFFFFFu - 0x01010101u * locked;
         status(locked == 0 ? WHEEL_STATUS_UNLOCKED : WHEEL_STATUS_LOCKED);
-        refused("a lock set up", set_up_as(0x41, WHEEL_LIMIT_MOST, unit.locked, right), WHEEL_TAKEN, due);
+        refused("a lock set up", set_up_as(STRAP, WHEEL_LIMIT_MOST, unit.locked, right), WHEEL_TAKEN, due);
     }
     status(WHEEL_STATUS_UNLOCKED);
-    refused("unlocked by set-up", set_up(0x41, WHEEL_LIMIT_MOST, right), WHEEL_TAKEN, fresh);
+    refused("unlocked by set-up", set_up(WHEEL_LIMIT_MOST, right), WHEEL_TAKEN, fresh);
 }
 
 /* Both FRAMs: what is wrong with either, in what is lent and in the record. `fits` is a unit that takes a byte. */
@@ -159,20 +184,20 @@ static void frams(struct wheel_unit fits) {
         n = right;
         n.bootloader -= wrong & 1;
         n.fram -= wrong >> 1;
-        refused("set-up 22", set_up(0x41, WHEEL_LIMIT_MOST, n), WHEEL_BAD_FRAM, nobody);
+        refused("set-up 22", set_up(WHEEL_LIMIT_MOST, n), WHEEL_BAD_FRAM, nobody);
         refused("step 22", step(fits, 0xC0, n), WHEEL_BAD_FRAM, fits);
         n = right;
         n.bootloader_sums -= wrong & 1;
         n.sums -= wrong >> 1;
-        refused("set-up 23", set_up(0x41, WHEEL_LIMIT_MOST, n), WHEEL_BAD_SUMS, nobody);
+        refused("set-up 23", set_up(WHEEL_LIMIT_MOST, n), WHEEL_BAD_SUMS, nobody);
         refused("step 23", step(fits, 0xC0, n), WHEEL_BAD_SUMS, fits);
     }
     n = right, n.bootloader = 0, n.bootloader_sums = 0;
-    refused("set-up with no bootloader FRAM", set_up(0x41, WHEEL_LIMIT_MOST, n), WHEEL_BAD_FRAM, nobody);
+    refused("set-up with no bootloader FRAM", set_up(WHEEL_LIMIT_MOST, n), WHEEL_BAD_FRAM, nobody);
     n = right, n.fram = 0, n.sums = 0;
-    refused("set-up with no user FRAM", set_up(0x41, WHEEL_LIMIT_MOST, n), WHEEL_BAD_FRAM, nobody);
+    refused("set-up with no user FRAM", set_up(WHEEL_LIMIT_MOST, n), WHEEL_BAD_FRAM, nobody);
     n = right, n.bootloader_sums--, n.fram--;
-    refused("set-up 22 of user FRAM before 23", set_up(0x41, WHEEL_LIMIT_MOST, n), WHEEL_BAD_FRAM, nobody);
+    refused("set-up 22 of user FRAM before 23", set_up(WHEEL_LIMIT_MOST, n), WHEEL_BAD_FRAM, nobody);
     refused("step 22 of user FRAM before 23", step(fits, 0xC0, n), WHEEL_BAD_FRAM, fits);
     n = right, n.bootloader -= WHEEL_FRAM_BLOCK, n.bootloader_sums--;
     refused("another bootloader FRAM", step(fits, 0xC0, n), WHEEL_BAD_FRAM, fits);
@@ -206,13 +231,13 @@ static void costs(struct wheel_unit fits) {
     const unsigned sizes[] = {BOOT, FRAM};
     enum { LENGTH = 13, ENDS = sizeof ends / sizeof ends[0] };
     struct wheel_unit unit = fits, after = fits;
-    unit.count = LENGTH;
-    after.count = 0;
+    unit.count0 = LENGTH;
+    after.count0 = 0;
     for (unsigned n = 0; n < 2 * ENDS * ENDS; n++) {
         const unsigned fram = n % 2, first = ends[n / 2 % ENDS], last = ends[n / 2 / ENDS];
         const uint32_t addresses[2] = {firsts[fram] + first, firsts[fram] + last};
-        uint8_t *const message = lent.message;
-        message[0] = fits.address;
+        uint8_t *const message = lent.ports[0].message;
+        message[0] = HEARD;
         message[1] = 0x11;
         message[2] = 0x06;
         for (size_t i = 0; i < 8; i++) {
@@ -221,7 +246,7 @@ static void costs(struct wheel_unit fits) {
         const uint16_t sum = wheel_crc(message, LENGTH - 2);
         message[LENGTH - 2] = (uint8_t)sum;
         message[LENGTH - 1] = (uint8_t)(sum >> 8);
-        memcpy(before.message, message, LENGTH);
+        memcpy(before.ports[0].message, message, LENGTH);
         const struct wheel_stepped came = step(unit, 0xC0, right);
         if (last < first) {
             silent("a CRC command that is refused", came, WHEEL_REFUSED_SILENT, 0, after);
@@ -255,51 +280,161 @@ static void lists(void) {
     same("stored", (unsigned long long)memcmp(&lent, &before, sizeof lent), 0);
 }
 
+/* The number of a place as a call reads it and hands it back. */
+static uint8_t place_read(unsigned place) { return place > WHEEL_THROWN ? WHEEL_FAULT : (uint8_t)place; }
+
+/* A refused call hands the record back: every field, with all bits of the wide ones. */
+static void handed_back(void) {
+    static const uint64_t wide[5] = {0, 1, 0x0123456789ABCDEFu, 0xFEDCBA9876543210u, 0xFFFFFFFFFFFFFFFFu};
+    static const uint16_t half[5] = {0, 1, 0x0123, 0xFEDC, 0xFFFF};
+    for (unsigned i = 0; i < 625; i++) {
+        for (unsigned n = 0; n < 256; n++) {
+            const struct wheel_unit unit = {.bootloader_len = wide[i % 5],
+                                            .fram_len = wide[i / 5 % 5],
+                                            .count0 = wide[i / 25 % 5],
+                                            .count1 = wide[i / 125],
+                                            .limit = half[n % 5],
+                                            .strap = (uint8_t)(8 + n % 248),
+                                            .mode = (uint8_t)n,
+                                            .place0 = (uint8_t)(255 - n),
+                                            .place1 = (uint8_t)(n + 200),
+                                            .locked = (uint8_t)(n + 128)};
+            struct wheel_unit due = unit;
+            due.mode = unit.mode == WHEEL_BOOTLOADER ? WHEEL_BOOTLOADER : WHEEL_APPLICATION;
+            due.place0 = place_read(unit.place0);
+            due.place1 = place_read(unit.place1);
+            due.locked = unit.locked == WHEEL_UNLOCKED ? WHEEL_UNLOCKED : WHEEL_LOCKED;
+            refused("a record", step_on((uint8_t)(n % 3), unit, (uint8_t)n, right), WHEEL_BAD_STRAP, due);
+        }
+    }
+    for (unsigned strap = 0; strap < 256; strap++) {
+        const struct wheel_unit unit = {.bootloader_len = 0x8877665544332211u,
+                                        .fram_len = 0x1122334455667788u,
+                                        .count0 = 5,
+                                        .count1 = 6,
+                                        .limit = 0xFEDC,
+                                        .strap = (uint8_t)strap,
+                                        .mode = WHEEL_APPLICATION,
+                                        .place0 = WHEEL_ESCAPE,
+                                        .place1 = WHEEL_THROWN,
+                                        .locked = WHEEL_LOCKED};
+        refused("a strap", step(unit, 0, right), strap > WHEEL_STRAP_MOST ? WHEEL_BAD_STRAP : WHEEL_BAD_FRAM, unit);
+    }
+}
+
+/* Every number of a place of either port, for a byte on the other port and for one on its own that a fault and a run that is thrown
+ * away pass over alike. `fits` is a unit that takes a byte. */
+static void places(struct wheel_unit fits) {
+    struct wheel_unit quiet = fits;
+    quiet.place0 = quiet.place1 = WHEEL_FRESH;
+    for (unsigned place = 0; place < 256; place++) {
+        struct wheel_unit unit = quiet, due = quiet;
+        unit.place0 = (uint8_t)place;
+        due.place0 = place_read(place);
+        refused("a place of port 0", step_on(1, unit, 0x55, right), WHEEL_TAKEN, due);
+        if (place >= WHEEL_FAULT) {
+            refused("a byte passed over on port 0", step_on(0, unit, 0xDB, right), WHEEL_TAKEN, due);
+        }
+        unit = due = quiet;
+        unit.place1 = (uint8_t)place;
+        due.place1 = place_read(place);
+        refused("a place of port 1", step_on(0, unit, 0x55, right), WHEEL_TAKEN, due);
+        if (place >= WHEEL_FAULT) {
+            refused("a byte passed over on port 1", step_on(1, unit, 0xDB, right), WHEEL_TAKEN, due);
+        }
+    }
+    /* The FEND tells a run that is thrown away from one with a fault. */
+    struct wheel_unit unit = quiet, due = quiet;
+    unit.place1 = WHEEL_THROWN;
+    due.place1 = WHEEL_RUN, due.count1 = 0;
+    refused("thrown away", step_on(1, unit, 0xC0, right), WHEEL_TAKEN, due);
+    unit.place1 = WHEEL_THROWN + 1;
+    before.diagnostics[WHEEL_FRAMINGS + WHEEL_PORT_1_COUNTS]++;
+    refused("a number that no place has", step_on(1, unit, 0xC0, right), WHEEL_FRAMING, due);
+}
+
+/* The buffers of a port with PING to an address in the one of messages, as if it had been received: 5 bytes. */
+static void put_ping(unsigned port, unsigned address, unsigned control) {
+    uint8_t *const message = lent.ports[port].message;
+    message[0] = (uint8_t)address;
+    message[1] = 0x11;
+    message[2] = (uint8_t)control;
+    const uint16_t sum = wheel_crc(message, 3);
+    message[3] = (uint8_t)sum;
+    message[4] = (uint8_t)(sum >> 8);
+    memcpy(before.ports[port].message, message, 5);
+}
+
+/* Replies by each of a unit's addresses, with every number of either port's sending: where they stand, what is counted, and how the
+ * other port's receiver stands then. `fits` is a unit that takes a byte. */
+static void replies(struct wheel_unit fits) {
+    static const unsigned firsts[4] = {WHEEL_0_ANSWERED_ON_1, WHEEL_0_ANSWERED_ON_0, WHEEL_1_ANSWERED_ON_1,
+                                       WHEEL_1_ANSWERED_ON_0};
+    for (unsigned n = 0; n < 4 * 256; n++) {
+        const unsigned way = n / 256, number = n % 256, heard = way / 2, answered = way == 0 || way == 2;
+        struct wheel_unit unit = fits;
+        unit.place0 = unit.place1 = WHEEL_RUN;
+        unit.count0 = unit.count1 = 5;
+        struct wheel_unit due = unit;
+        *(heard ? &due.count1 : &due.count0) = 0;
+        put_ping(heard, firsts[way] + STRAP, 0x80);
+        sending[answered] = (uint8_t)number;
+        sending[!answered] = (uint8_t)(n * 7);
+        const struct wheel_stepped came = step_on((uint8_t)heard, unit, 0xC0, right);
+        if (number != WHEEL_SILENT) {
+            before.diagnostics[WHEEL_LOST + answered * WHEEL_PORT_1_COUNTS]++;
+            refused("a reply lost", came, WHEEL_DONE_SILENT, due);
+            continue;
+        }
+        if (heard != answered) {
+            *(answered ? &due.place1 : &due.place0) = WHEEL_THROWN;
+            before.diagnostics[WHEEL_THROWN_AWAY + answered * WHEEL_PORT_1_COUNTS]++;
+        }
+        same("a reply", came.answer, WHEEL_ACKED);
+        same("a reply's length", came.sent, 24);
+        same("a reply's port", came.port, answered);
+        same_unit("a reply's record", came.unit, due);
+        const uint8_t *const reply = lent.ports[answered].reply;
+        same("a reply's FEND", reply[0], 0xC0);
+        same("a reply's destination", reply[1], 0x11);
+        same("a reply's source", reply[2], firsts[way] + STRAP);
+        same("a reply's CRC", wheel_crc(reply + 1, 20), (uint16_t)(reply[21] | reply[22] << 8));
+        memcpy(before.ports[answered].reply, reply, 24);
+        same("beside a reply", (unsigned long long)memcmp(&lent, &before, sizeof lent), 0);
+    }
+    sending[0] = sending[1] = WHEEL_SILENT;
+}
+
 int main(void) {
     for (size_t i = 0; i < sizeof lent; i++) {
         ((uint8_t *)&lent)[i] = (uint8_t)(i * 7 + i / 251);
     }
     before = lent;
-    same("size of a record", sizeof(struct wheel_unit), 32);
-    same("size of what a call gives back", sizeof(struct wheel_stepped), 48);
-    same("place of the cost", offsetof(struct wheel_stepped, cost), 44);
-    same("place of the number", offsetof(struct wheel_stepped, answer), 40);
+    same("size of a record", sizeof(struct wheel_unit), 40);
+    same("size of what a call gives back", sizeof(struct wheel_stepped), 56);
+    same("place of the cost", offsetof(struct wheel_stepped, cost), 52);
+    same("place of the port", offsetof(struct wheel_stepped, port), 49);
+    same("place of the number", offsetof(struct wheel_stepped, answer), 48);
 
-    /* A refused call hands the record back: every field, with all bits of the wide ones. */
-    const uint64_t wide[] = {0, 1, 0x0123456789ABCDEFu, 0xFEDCBA9876543210u, 0xFFFFFFFFFFFFFFFFu};
-    const uint16_t half[] = {0, 1, 0x0123, 0xFEDC, 0xFFFF};
-    for (size_t i = 0; i < 5; i++) {
-        for (size_t k = 0; k < 5; k++) {
-            for (unsigned n = 0; n < 256; n++) {
-                const uint16_t limit = half[n % 5];
-                const uint64_t length = wide[n / 5 % 5];
-                const uint8_t locked = (uint8_t)(n + 128);
-                const struct wheel_unit unit = {length, wide[i], wide[k], limit, 0xC0, (uint8_t)n, (uint8_t)(255 - n), locked};
-                const uint8_t mode = n == 0 ? 0 : 1, place = 255 - n > 3 ? 3 : (uint8_t)(255 - n);
-                const struct wheel_unit due = {length, wide[i], wide[k], limit, 0xC0, mode, place, locked == 0 ? 0 : 1};
-                refused("a record", step(unit, (uint8_t)n, right), WHEEL_BAD_ADDRESS, due);
-            }
-        }
-    }
-    for (unsigned address = 0; address < 256; address++) {
-        const struct wheel_unit unit = {0x8877665544332211u, 0x1122334455667788u, 5, 0xFEDC, (uint8_t)address, 1, 2, 1};
-        const int no = address == 0x00 || address == 0xC0 || address == 0xDB;
-        refused("an address", step(unit, 0, right), no ? WHEEL_BAD_ADDRESS : WHEEL_BAD_FRAM, unit);
-    }
+    handed_back();
 
     /* Set-up: its refusals, and then its record, its sums and the status that it writes. */
-    refused("set-up 20", set_up(0xDB, WHEEL_LIMIT_MOST, right), WHEEL_BAD_ADDRESS, nobody);
+    for (unsigned strap = WHEEL_STRAP_MOST + 1; strap < 256; strap++) {
+        refused("set-up 20", set_up_as((uint8_t)strap, WHEEL_LIMIT_MOST, 0, right), WHEEL_BAD_STRAP, nobody);
+    }
     struct lengths n = right;
     n.edac--;
-    refused("set-up 21", set_up(0x41, WHEEL_LIMIT_MOST, n), WHEEL_BAD_EDAC, nobody);
+    refused("set-up 21", set_up(WHEEL_LIMIT_MOST, n), WHEEL_BAD_EDAC, nobody);
     n = right, n.diagnostics--;
-    refused("set-up 24", set_up(0x41, WHEEL_LIMIT_MOST, n), WHEEL_BAD_DIAGNOSTICS, nobody);
-    n = right, n.message--;
-    refused("set-up 25", set_up(0x41, WHEEL_LIMIT_MOST, n), WHEEL_BAD_BUFFERS, nobody);
-    n = right, n.reply--;
-    refused("set-up 25", set_up(0x41, WHEEL_LIMIT_MOST, n), WHEEL_BAD_BUFFERS, nobody);
-    const struct wheel_unit fresh = {BOOT, FRAM, 0, WHEEL_LIMIT_MOST, 0x41, WHEEL_BOOTLOADER, WHEEL_FRESH, WHEEL_UNLOCKED};
-    struct wheel_stepped now = set_up(0x41, WHEEL_LIMIT_MOST, right);
+    refused("set-up 24", set_up(WHEEL_LIMIT_MOST, n), WHEEL_BAD_DIAGNOSTICS, nobody);
+    for (unsigned port = 0; port < 2; port++) {
+        n = right, n.message[port]--;
+        refused("set-up 25", set_up(WHEEL_LIMIT_MOST, n), WHEEL_BAD_BUFFERS, nobody);
+        n = right, n.reply[port]--;
+        refused("set-up 25", set_up(WHEEL_LIMIT_MOST, n), WHEEL_BAD_BUFFERS, nobody);
+    }
+    const struct wheel_unit fresh = {.bootloader_len = BOOT, .fram_len = FRAM, .limit = WHEEL_LIMIT_MOST, .strap = STRAP};
+    struct wheel_stepped now = set_up(WHEEL_LIMIT_MOST, right);
     for (size_t block = 0; block < BOOT_SUMS; block++) {
         before.bootloader_sums[block] = wheel_crc(before.bootloader + block * WHEEL_FRAM_BLOCK, WHEEL_FRAM_BLOCK);
     }
@@ -308,69 +443,111 @@ int main(void) {
     }
     status(WHEEL_STATUS_UNLOCKED);
     refused("set up", now, WHEEL_TAKEN, fresh);
+    struct wheel_unit strapped = fresh;
+    for (uint8_t strap = 0; strap <= WHEEL_STRAP_MOST; strap++) {
+        strapped.strap = strap;
+        refused("a strap set up", set_up_as(strap, WHEEL_LIMIT_MOST, 0, right), WHEEL_TAKEN, strapped);
+    }
     locks(fresh);
 
     /* A byte: its refusals, and each place. */
-    const struct wheel_unit fits = {BOOT, FRAM, 1034, WHEEL_LIMIT_MOST, 0x41, WHEEL_APPLICATION, WHEEL_RUN, WHEEL_LOCKED};
+    const struct wheel_unit fits = {.bootloader_len = BOOT,
+                                    .fram_len = FRAM,
+                                    .count0 = 1034,
+                                    .count1 = 77,
+                                    .limit = WHEEL_LIMIT_MOST,
+                                    .strap = STRAP,
+                                    .mode = WHEEL_APPLICATION,
+                                    .place0 = WHEEL_RUN,
+                                    .place1 = WHEEL_ESCAPE,
+                                    .locked = WHEEL_LOCKED};
     n = right, n.edac--;
     refused("step 21", step(fits, 0xC0, n), WHEEL_BAD_EDAC, fits);
     frams(fits);
     n = right, n.diagnostics--;
     refused("step 24", step(fits, 0xC0, n), WHEEL_BAD_DIAGNOSTICS, fits);
-    n = right, n.message--;
-    refused("step 25", step(fits, 0xC0, n), WHEEL_BAD_BUFFERS, fits);
-    n = right, n.reply--;
-    refused("step 25", step(fits, 0xC0, n), WHEEL_BAD_BUFFERS, fits);
+    for (unsigned port = 0; port < 4; port++) {
+        n = right, n.message[port % 2]--;
+        refused("step 25", step_on(port / 2, fits, 0xC0, n), WHEEL_BAD_BUFFERS, fits);
+        n = right, n.reply[port % 2]--;
+        refused("step 25", step_on(port / 2, fits, 0xC0, n), WHEEL_BAD_BUFFERS, fits);
+    }
     struct wheel_unit unit = fits;
-    unit.count = 1035;
-    refused("step 26", step(unit, 0xC0, right), WHEEL_BAD_COUNT, unit);
+    for (unsigned port = 0; port < 256; port++) {
+        unit = fits, unit.count0 = 1035;
+        refused("step 26 of port 0", step_on((uint8_t)port, unit, 0xC0, right), WHEEL_BAD_COUNT, unit);
+        unit = fits, unit.count1 = 1035;
+        refused("step 26 of port 1", step_on((uint8_t)port, unit, 0xC0, right), WHEEL_BAD_COUNT, unit);
+        if (port > 1) {
+            refused("step 27", step_on((uint8_t)port, fits, 0xC0, right), WHEEL_BAD_PORT, fits);
+        }
+    }
     refused("a fresh unit", step(fresh, 0x55, right), WHEEL_TAKEN, fresh);
-    unit = fresh, unit.place = WHEEL_RUN;
+    unit = fresh, unit.place0 = WHEEL_RUN;
     refused("the first FEND", step(fresh, 0xC0, right), WHEEL_TAKEN, unit);
-    unit = fits, unit.place = WHEEL_ESCAPE;
+    unit = fresh, unit.place1 = WHEEL_RUN;
+    refused("the first FEND of port 1", step_on(1, fresh, 0xC0, right), WHEEL_TAKEN, unit);
+    unit = fits, unit.place0 = WHEEL_ESCAPE;
     refused("FESC", step(fits, 0xDB, right), WHEEL_TAKEN, unit);
     struct wheel_unit fault = fits;
-    fault.place = WHEEL_FAULT;
+    fault.place0 = WHEEL_FAULT;
     refused("FESC and another byte", step(unit, 0x00, right), WHEEL_TAKEN, fault);
-    unit = fault, unit.place = 200;
-    refused("a place out of range", step(unit, 0xDC, right), WHEEL_TAKEN, fault);
-    unit = fits, unit.count = 0;
-    before.diagnostics[7]++;
+    places(fits);
+    unit = fits, unit.count0 = 0;
+    before.diagnostics[WHEEL_FRAMINGS]++;
     refused("framing", step(fault, 0xC0, right), WHEEL_FRAMING, unit);
-    before.diagnostics[9]++;
+    before.diagnostics[WHEEL_OVERSIZES]++;
     refused("oversize", step(fits, 0xC0, right), WHEEL_OVERSIZE, unit);
     struct wheel_unit four = fits;
-    four.count = 4;
-    before.diagnostics[8]++;
+    four.count0 = 4;
+    before.diagnostics[WHEEL_RUNTS]++;
     refused("runt", step(four, 0xC0, right), WHEEL_RUNT, unit);
-    four.count = 5;
-    before.diagnostics[10]++;
+    four.count0 = 5;
+    before.diagnostics[WHEEL_BAD_CRCS]++;
     refused("bad CRC", step(four, 0xC0, right), WHEEL_BAD_CRC, unit);
-    four.count = 7;
-    before.message[7] = lent.message[7];
+    four.count0 = 7;
     struct wheel_stepped stored = step(four, 0xA5, right);
-    before.message[7] = 0xA5;
-    four.count = 8;
+    before.ports[0].message[7] = 0xA5;
+    four.count0 = 8;
     refused("a byte stored", stored, WHEEL_TAKEN, four);
+    four = fits, four.place1 = WHEEL_RUN, four.count1 = 9;
+    stored = step_on(1, four, 0x5A, right);
+    before.ports[1].message[9] = 0x5A;
+    four.count1 = 10;
+    refused("a byte stored on port 1", stored, WHEEL_TAKEN, four);
+    four.count1 = 0;
+    before.diagnostics[WHEEL_FRAMINGS + WHEEL_PORT_1_COUNTS]++;
+    unit = four, unit.place1 = WHEEL_FAULT, unit.count1 = 3;
+    refused("framing on port 1", step_on(1, unit, 0xC0, right), WHEEL_FRAMING, four);
+    before.diagnostics[WHEEL_RUNTS + WHEEL_PORT_1_COUNTS]++;
+    unit = four, unit.count1 = 4;
+    refused("runt on port 1", step_on(1, unit, 0xC0, right), WHEEL_RUNT, four);
+    before.diagnostics[WHEEL_OVERSIZES + WHEEL_PORT_1_COUNTS]++;
+    unit = four, unit.count1 = 1034;
+    refused("oversize on port 1", step_on(1, unit, 0xC0, right), WHEEL_OVERSIZE, four);
+    before.diagnostics[WHEEL_BAD_CRCS + WHEEL_PORT_1_COUNTS]++;
+    unit = four, unit.count1 = 5;
+    refused("bad CRC on port 1", step_on(1, unit, 0xC0, right), WHEEL_BAD_CRC, four);
 
     /* Packing: its refusals, and a message with both escapes. */
     static const uint8_t message[6] = {0x11, 0xC0, 0xDB, 0x00, 0xFF, 0x41};
     static const uint8_t packed[10] = {0xC0, 0x11, 0xDB, 0xDC, 0xDB, 0xDD, 0x00, 0xFF, 0x41, 0xC0};
-    struct wheel_packed sent = wheel_pack(message, 6, lent.reply, WHEEL_REPLY - 1);
+    struct wheel_packed sent = wheel_pack(message, 6, lent.ports[0].reply, WHEEL_REPLY - 1);
     same("packing 25", sent.answer, WHEEL_BAD_BUFFERS);
     same("packing 25", sent.sent, 0);
-    sent = wheel_pack(message, 4, lent.reply, WHEEL_REPLY);
+    sent = wheel_pack(message, 4, lent.ports[0].reply, WHEEL_REPLY);
     same("packing 35", sent.answer, WHEEL_BAD_LENGTH);
     same("packing 35", sent.sent, 0);
     same("packing writes nothing", (unsigned long long)memcmp(&lent, &before, sizeof lent), 0);
-    sent = wheel_pack(message, 6, lent.reply, WHEEL_REPLY);
-    memcpy(before.reply, packed, sizeof packed);
+    sent = wheel_pack(message, 6, lent.ports[0].reply, WHEEL_REPLY);
+    memcpy(before.ports[0].reply, packed, sizeof packed);
     same("packed", sent.answer, WHEEL_TAKEN);
     same("packed", sent.sent, sizeof packed);
     same("packed", (unsigned long long)memcmp(&lent, &before, sizeof lent), 0);
 
     limits(fresh);
     costs(fits);
+    replies(fits);
     lists();
 
     /* Joining: with no bytes on either side a part comes back as it was, with all bits of its fields; and its refusal. */

@@ -8,7 +8,7 @@
 #include <stdlib.h>
 #include <string.h>
 
-enum { WHEEL = 0x41, HOST = 0x11, POLL = 0x80, ACK = 0x20 };
+enum { STRAP = 1, WHEEL = WHEEL_0_ANSWERED_ON_1 + STRAP, HOST = 0x11, POLL = 0x80, ACK = 0x20 };
 enum { INIT = 0x01, WRITE_FILE = 0x08, WRITE_EDAC = 0x0A };
 enum { FILES = 256, FILE_BYTES = 4, MODE = 0x5C3 };
 enum { MOST = 6 }; /* bytes of data: file 0's address, mode byte and four bytes */
@@ -41,20 +41,23 @@ static size_t packed(uint8_t to, uint8_t from, unsigned control, const uint8_t *
     return (size_t)whole.sent;
 }
 
-/* Sends a command byte by byte; it must be ACKed. */
+/* Sends a command byte by byte on port 0; it must be ACKed. */
 static void ask(unsigned code, const uint8_t *data, size_t length) {
     static uint8_t line[WHEEL_REPLY];
     const size_t size = packed(WHEEL, HOST, POLL | code, data, length, line);
     for (size_t i = 0; i < size; i++) {
-        same("answer", wheel_byte(&wheel, line[i]), i + 1 < size ? WHEEL_TAKEN : WHEEL_ACKED);
+        const uint8_t answer = wheel_byte(&wheel, 0, line[i], WHEEL_SILENT, WHEEL_SILENT);
+        same("answer", answer, i + 1 < size ? WHEEL_TAKEN : WHEEL_ACKED);
     }
 }
 
 /* The reply that was just given must be an ACK with this data. */
 static void replied(unsigned code, const uint8_t *data, size_t length) {
     static uint8_t due[WHEEL_REPLY];
+    uint8_t port;
     size_t sent;
-    const uint8_t *reply = wheel_reply(&wheel, &sent);
+    const uint8_t *reply = wheel_reply(&wheel, &port, &sent);
+    same("port of the reply", port, 1);
     same("length of the reply", sent, packed(HOST, WHEEL, POLL | ACK | code, data, length, due));
     for (size_t i = 0; i < sent; i++) {
         same("byte of the reply", reply[i], due[i]);
@@ -101,7 +104,7 @@ static void try_places(unsigned code, const uint8_t *head, size_t heads, const s
 int main(void) {
     static const uint8_t application[4] = {0x00, 0x00, 0x05, 0x20};
     static char by_edac[WHEEL_EDAC + 1], by_file[WHEEL_EDAC + 1];
-    same("set-up", wheel_begin(&wheel, WHEEL, WHEEL_LIMIT_MOST, WHEEL_UNLOCKED), WHEEL_TAKEN);
+    same("set-up", wheel_begin(&wheel, STRAP, WHEEL_LIMIT_MOST, WHEEL_UNLOCKED), WHEEL_TAKEN);
     trying = INIT;
     ask(INIT, application, sizeof application);
     same("mode", wheel.now.unit.mode, WHEEL_APPLICATION);

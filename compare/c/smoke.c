@@ -1,6 +1,7 @@
 /* The C face, linked and called as firmware does it: some vectors of 01, the joining of every cut of a text, a unit on which the
    line writes SPEED in vain, a unit of the least limit, bootloader FRAM written, read and locked, CRC commands with what they cost,
-   and lists of files judged and stored with no unit at hand. */
+   the four addresses of each strap, replies that are lost and that throw a run away, and lists of files judged and stored with no
+   unit at hand. */
 #include "wheel.h"
 
 #include <stdio.h>
@@ -21,20 +22,29 @@ static void same(const char *name, unsigned long came, unsigned long due) {
     }
 }
 
-static unsigned set_up(uint64_t limit) { return wheel_begin(&wheel, 0x41, limit, WHEEL_UNLOCKED); }
+enum { STRAP = 1 };
 
-/* Bytes of the line, one after the other: the answer to the last. */
-static unsigned fed(const uint8_t *line, size_t length) {
+static unsigned set_up(uint64_t limit) { return wheel_begin(&wheel, STRAP, limit, WHEEL_UNLOCKED); }
+
+/* Whether port 0 and port 1 are sending. */
+static uint8_t sending[2];
+
+static unsigned byte_on(uint8_t port, uint8_t byte) { return wheel_byte(&wheel, port, byte, sending[0], sending[1]); }
+
+/* Bytes of the line on a port, one after the other: the answer to the last. */
+static unsigned fed_on(uint8_t port, const uint8_t *line, size_t length) {
     for (size_t i = 0; i < length; i++) {
-        wheel_byte(&wheel, line[i]);
+        byte_on(port, line[i]);
     }
     return wheel.now.answer;
 }
 
-/* The answer to a command with this data. */
-static unsigned asked(unsigned code, const uint8_t *data, size_t length) {
+static unsigned fed(const uint8_t *line, size_t length) { return fed_on(0, line, length); }
+
+/* The answer on a port to a command with this data to an address. */
+static unsigned asked_at(uint8_t port, unsigned address, unsigned code, const uint8_t *data, size_t length) {
     static uint8_t bytes[WHEEL_MESSAGE], line[WHEEL_REPLY];
-    bytes[0] = 0x41;
+    bytes[0] = (uint8_t)address;
     bytes[1] = 0x11;
     bytes[2] = (uint8_t)(0x80 + code);
     memcpy(bytes + 3, data, length);
@@ -43,13 +53,20 @@ static unsigned asked(unsigned code, const uint8_t *data, size_t length) {
     bytes[3 + length + 1] = (uint8_t)(sum >> 8);
     const struct wheel_packed packed = wheel_pack(bytes, 3 + length + 2, line, WHEEL_REPLY);
     same("packed", packed.answer, WHEEL_TAKEN);
-    return fed(line, packed.sent);
+    return fed_on(port, line, packed.sent);
+}
+
+/* On port 0, to the address that is answered on port 1. */
+static unsigned asked(unsigned code, const uint8_t *data, size_t length) {
+    return asked_at(0, WHEEL_0_ANSWERED_ON_1 + STRAP, code, data, length);
 }
 
 /* The data of the reply that was just given, which must have so many bytes, none of them escaped, must be these. */
 static void shown(const char *name, const uint8_t *data, size_t length) {
+    uint8_t port;
     size_t sent;
-    const uint8_t *reply = wheel_reply(&wheel, &sent);
+    const uint8_t *reply = wheel_reply(&wheel, &port, &sent);
+    same(name, port, 1);
     same(name, sent, 1 + 3 + length + 2 + 1);
     same(name, (unsigned long)memcmp(reply + 4, data, length), 0);
 }
@@ -64,10 +81,10 @@ static void speed_is_read_only(void) {
     }
     same("set up", set_up(WHEEL_LIMIT_MOST), WHEEL_TAKEN);
     same("SPEED written", fed(line, sizeof line), WHEEL_ACKED);
-    same("SPEED's file", wheel.reply[4], 0x15);
+    same("SPEED's file", wheel.ports[1].reply[4], 0x15);
     for (size_t i = 0; i < 4; i++) {
         same("SPEED held", edac[0x54 + i], speed[i]);
-        same("SPEED shown", wheel.reply[5 + i], speed[i]);
+        same("SPEED shown", wheel.ports[1].reply[5 + i], speed[i]);
     }
 }
 
@@ -83,12 +100,12 @@ static unsigned pinged(uint64_t limit, size_t length) {
 static void shorter_messages(void) {
     same("limit 259", set_up(WHEEL_LIMIT_LEAST - 1), WHEEL_BAD_LIMIT);
     same("limit 1029", set_up(WHEEL_LIMIT_MOST + 1), WHEEL_BAD_LIMIT);
-    same("a byte after a refused set-up", wheel_byte(&wheel, 0xC0), WHEEL_BAD_ADDRESS);
+    same("a byte after a refused set-up", byte_on(0, 0xC0), WHEEL_BAD_STRAP);
     same("260 bytes under 260", pinged(WHEEL_LIMIT_LEAST, 260), WHEEL_ACKED);
     same("261 bytes under 260", pinged(WHEEL_LIMIT_LEAST, 261), WHEEL_OVERSIZE);
     same("261 bytes under 1028", pinged(WHEEL_LIMIT_MOST, 261), WHEEL_ACKED);
     same("1028 bytes under 1028", pinged(WHEEL_LIMIT_MOST, 1028), WHEEL_ACKED);
-    same("oversize runs counted", wheel.diagnostics[0x09], 1);
+    same("oversize runs counted", wheel.diagnostics[WHEEL_OVERSIZES], 1);
 }
 
 /* 02, T-07: bootloader FRAM is written, read and locked; then it is read, and a POKE to it is echoed and stores nothing. */
@@ -127,7 +144,7 @@ static void bootloader_fram(void) {
         same("sum kept", bootloader_sums[block], wheel_crc(bootloader + block * WHEEL_FRAM_BLOCK, WHEEL_FRAM_BLOCK));
     }
     same("sum of user FRAM kept", user_sums[0], wheel_crc(user, sizeof user));
-    same("set up locked", wheel_begin(&wheel, 0x41, WHEEL_LIMIT_MOST, WHEEL_LOCKED), WHEEL_TAKEN);
+    same("set up locked", wheel_begin(&wheel, STRAP, WHEEL_LIMIT_MOST, WHEEL_LOCKED), WHEEL_TAKEN);
     same("locked from set-up on", wheel.now.unit.locked, WHEEL_LOCKED);
     same("POKE when set up locked", asked(0x03, again, sizeof again), WHEEL_ACKED);
     same("nothing stored", bootloader[0xFF], 0x01);
@@ -169,7 +186,7 @@ static void costs(void) {
     same("set up", set_up(WHEEL_LIMIT_MOST), WHEEL_TAKEN);
     same("set-up's cost", wheel.now.cost, 0);
     summed("CRC of a block", 256, 511, WHEEL_ACKED, 1);
-    same("a byte after a CRC command", wheel_byte(&wheel, 0xC0), WHEEL_TAKEN);
+    same("a byte after a CRC command", byte_on(0, 0xC0), WHEEL_TAKEN);
     same("its cost", wheel.now.cost, 0);
     summed("CRC of a byte less", 256, 510, WHEEL_ACKED, 255);
     summed("CRC of one byte", 255, 255, WHEEL_ACKED, 1);
@@ -180,6 +197,75 @@ static void costs(void) {
     summed("CRC of a byte not fitted", 0, end + 1, WHEEL_UNFITTED, 0);
     same("PEEK", asked(0x02, peek, sizeof peek), WHEEL_ACKED);
     same("PEEK's cost", wheel.now.cost, 0);
+}
+
+/* 02, T-01: each strap's four addresses, on the port that hears them and on the other. */
+static void addresses(void) {
+    static const struct {
+        unsigned first;
+        uint8_t heard, answered;
+    } ways[] = {{WHEEL_0_ANSWERED_ON_1, 0, 1},
+                {WHEEL_0_ANSWERED_ON_0, 0, 0},
+                {WHEEL_1_ANSWERED_ON_1, 1, 1},
+                {WHEEL_1_ANSWERED_ON_0, 1, 0}};
+    for (uint8_t strap = 0; strap <= WHEEL_STRAP_MOST; strap++) {
+        same("a strap taken", wheel_begin(&wheel, strap, WHEEL_LIMIT_MOST, WHEEL_UNLOCKED), WHEEL_TAKEN);
+        for (size_t i = 0; i < 4; i++) {
+            const unsigned address = ways[i].first + strap;
+            uint8_t port;
+            size_t sent;
+            same("heard", asked_at(ways[i].heard, address, 0x00, edac, 0), WHEEL_ACKED);
+            const uint8_t *reply = wheel_reply(&wheel, &port, &sent);
+            same("answered on", port, ways[i].answered);
+            same("where it stands", reply == wheel.ports[ways[i].answered].reply, 1);
+            same("sent", sent, 24);
+            same("answered from", reply[2], address);
+            same("on the other port", asked_at(!ways[i].heard, address, 0x00, edac, 0), WHEEL_ELSEWHERE);
+            wheel_reply(&wheel, &port, &sent);
+            same("nothing sent", sent + port, 0);
+        }
+    }
+    same("strap 8", wheel_begin(&wheel, WHEEL_STRAP_MOST + 1, WHEEL_LIMIT_MOST, WHEEL_UNLOCKED), WHEEL_BAD_STRAP);
+    same("its record", wheel.now.unit.strap, WHEEL_STRAP_MOST + 1);
+}
+
+/* A count of port 1, as it has moved since the wheel began. */
+static unsigned long count1(unsigned channel) { return wheel.diagnostics[channel + WHEEL_PORT_1_COUNTS]; }
+
+/* 02, T-01: port 1 sends while a reply is due there; then it is in a run, which a reply throws away; then it errs. */
+static void both_ports(void) {
+    static const uint8_t poke[] = {0x00, 0x00, 0x04, 0x20, 0x77}, run[] = {0xC0, 0x51, 0x11}, rest[] = {0x80, 0xDB, 0xC0};
+    same("set up", set_up(WHEEL_LIMIT_MOST), WHEEL_TAKEN);
+    memset(wheel.diagnostics, 0, sizeof wheel.diagnostics);
+    large[0] = 0;
+    sending[1] = WHEEL_SENDING;
+    same("a reply lost", asked(0x03, poke, sizeof poke), WHEEL_DONE_SILENT);
+    same("its command done", large[0], 0x77);
+    same("a NACK lost", asked(0x1F, poke, sizeof poke), WHEEL_REFUSED_SILENT);
+    same("lost", count1(WHEEL_LOST), 2);
+    sending[0] = WHEEL_SENDING, sending[1] = WHEEL_SILENT;
+    same("a run begun", fed_on(1, run, sizeof run), WHEEL_TAKEN);
+    same("in a run", wheel.now.unit.place1, WHEEL_RUN);
+    same("PING", asked(0x00, poke, 0), WHEEL_ACKED);
+    same("thrown away", wheel.now.unit.place1, WHEEL_THROWN);
+    same("its count", wheel.now.unit.count1, 2);
+    same("counted", count1(WHEEL_THROWN_AWAY), 1);
+    same("the rest of it", fed_on(1, rest, sizeof rest), WHEEL_TAKEN);
+    same("after it", wheel.now.unit.place1, WHEEL_RUN);
+    same("counted none", wheel.now.unit.count1, 0);
+    same("a run begun anew", fed_on(1, run, sizeof run), WHEEL_TAKEN);
+    same("a runt", byte_on(1, 0xC0), WHEEL_RUNT);
+    same("runts of port 1", count1(WHEEL_RUNTS), 1);
+    same("PING to port 1", asked_at(1, WHEEL_1_ANSWERED_ON_1 + STRAP, 0x00, poke, 0), WHEEL_ACKED);
+    same("a reply for port 0 lost", asked_at(1, WHEEL_1_ANSWERED_ON_0 + STRAP, 0x00, poke, 0), WHEEL_DONE_SILENT);
+    same("lost on port 0", wheel.diagnostics[WHEEL_LOST], 1);
+    same("a port that there is not", byte_on(2, 0xC0), WHEEL_BAD_PORT);
+    sending[0] = WHEEL_SILENT;
+    unsigned long all = 0;
+    for (size_t i = WHEEL_FRAMINGS; i < WHEEL_DIAGNOSTICS; i++) {
+        all += wheel.diagnostics[i];
+    }
+    same("all that was counted", all, 5);
 }
 
 /* 02, T-11: the lists of P11 and P12, in memory that holds zeros. */
@@ -226,6 +312,8 @@ int main(void) {
     shorter_messages();
     bootloader_fram();
     costs();
+    addresses();
+    both_ports();
     asked_before_writing();
     puts(bad ? "the C face: BAD" : "the C face: ok");
     return bad;

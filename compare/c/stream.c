@@ -1,5 +1,5 @@
-/* A wheel in C over the archive, for measuring: feeds standard input to a unit 0x41 with 65,536 bytes of each FRAM and writes the
-   replies. */
+/* A wheel in C over the archive, for measuring: feeds standard input to port 0 of a unit with strap 1 and 65,536 bytes of each FRAM
+   and writes the replies, on whichever port they leave. No port is ever said to be sending. */
 #include "wheel.h"
 
 #include <stdio.h>
@@ -11,14 +11,15 @@ static struct wheel wheel = {.edac = edac,
                              .user = {user, sizeof user, user_sums}};
 
 int main(void) {
-    if (wheel_begin(&wheel, 0x41, WHEEL_LIMIT_MOST, WHEEL_UNLOCKED) != WHEEL_TAKEN) {
+    if (wheel_begin(&wheel, 1, WHEEL_LIMIT_MOST, WHEEL_UNLOCKED) != WHEEL_TAKEN) {
         return 1;
     }
     for (size_t n; (n = fread(read, 1, sizeof read, stdin)) > 0;) {
         for (size_t i = 0; i < n; i++) {
-            wheel_byte(&wheel, read[i]);
+            wheel_byte(&wheel, 0, read[i], WHEEL_SILENT, WHEEL_SILENT);
+            uint8_t port;
             size_t length;
-            const uint8_t *reply = wheel_reply(&wheel, &length);
+            const uint8_t *reply = wheel_reply(&wheel, &port, &length);
             fwrite(reply, 1, length, stdout);
         }
     }

@@ -1,6 +1,7 @@
 /* The header's struct with its functions against the plain calls: two units are set up and fed the same seeded bytes, one each
-   way, and after every call record, number, bytes to be sent, cost, memories and buffers must be the same. Set-ups are in between,
-   some of them refused, and so are bytes while the length of an FRAM is wrong. */
+   way, on both ports in turn, with ports that are sending now and then, and after every call record, number, bytes to be sent, their
+   port, cost, memories and buffers must be the same. Set-ups are in between, some of them refused, and so are bytes while the length
+   of an FRAM is wrong and bytes on a port that there is not. */
 #include "wheel.h"
 
 #include <stdio.h>
@@ -21,8 +22,8 @@ static struct wheel whole = {.edac = wholes.edac,
                              .user = {wholes.user, 2 * WHEEL_FRAM_BLOCK, wholes.user_sums}};
 static struct wheel_stepped plain;
 static uint32_t diagnostics[WHEEL_DIAGNOSTICS];
-static uint8_t message[WHEEL_MESSAGE], reply[WHEEL_REPLY];
-static unsigned long calls, came[NUMBERS], locked_calls, costly_calls;
+static struct wheel_port ports[2];
+static unsigned long calls, came[NUMBERS], replies[2], locked_calls, costly_calls, thrown_calls;
 
 static uint32_t any(uint32_t below) {
     static uint64_t state = 7;
@@ -39,46 +40,56 @@ static void same(const char *name, unsigned long long one, unsigned long long ot
 
 /* All that a call leaves. */
 static void compare(unsigned number) {
+    uint8_t port;
     size_t length;
     const struct wheel_unit one = whole.now.unit, other = plain.unit;
     calls++;
     same("number handed back", number, plain.answer);
     same("number", whole.now.answer, plain.answer);
     same("bytes to be sent", whole.now.sent, plain.sent);
+    same("port", whole.now.port, plain.port);
     same("cost", whole.now.cost, plain.cost);
-    same("place of the reply", wheel_reply(&whole, &length) == whole.reply, 1);
+    same("place of the reply", wheel_reply(&whole, &port, &length) == whole.ports[plain.port].reply, 1);
+    same("port of the reply", port, plain.port);
     same("length of the reply", length, plain.sent);
     same("bootloader_len", one.bootloader_len, other.bootloader_len);
     same("fram_len", one.fram_len, other.fram_len);
-    same("count", one.count, other.count);
+    same("count of port 0", one.count0, other.count0);
+    same("count of port 1", one.count1, other.count1);
     same("limit", one.limit, other.limit);
-    same("address", one.address, other.address);
+    same("strap", one.strap, other.strap);
     same("mode", one.mode, other.mode);
-    same("place", one.place, other.place);
+    same("place of port 0", one.place0, other.place0);
+    same("place of port 1", one.place1, other.place1);
     same("lock", one.locked, other.locked);
     same("memories", memcmp(&wholes, &plains, sizeof wholes) != 0, 0);
     same("diagnostics", memcmp(whole.diagnostics, diagnostics, sizeof diagnostics) != 0, 0);
-    same("message buffer", memcmp(whole.message, message, sizeof message) != 0, 0);
-    same("reply buffer", memcmp(whole.reply, reply, sizeof reply) != 0, 0);
+    same("buffers of port 0", memcmp(&whole.ports[0], &ports[0], sizeof ports[0]) != 0, 0);
+    same("buffers of port 1", memcmp(&whole.ports[1], &ports[1], sizeof ports[1]) != 0, 0);
     came[number % NUMBERS]++;
+    replies[plain.port] += plain.sent != 0;
+    thrown_calls += one.place0 == WHEEL_THROWN || one.place1 == WHEEL_THROWN;
     locked_calls += one.locked;
     costly_calls += plain.cost != 0;
 }
 
-static void set_up(uint8_t address, uint64_t limit, uint8_t locked) {
+static void set_up(uint8_t strap, uint64_t limit, uint8_t locked) {
     const size_t boot = whole.bootloader.length, user = whole.user.length;
-    plain = wheel_set_up(address, limit, locked, plains.edac, WHEEL_EDAC, plains.bootloader, boot, plains.bootloader_sums,
+    plain = wheel_set_up(strap, limit, locked, plains.edac, WHEEL_EDAC, plains.bootloader, boot, plains.bootloader_sums,
                          boot / WHEEL_FRAM_BLOCK, plains.user, user, plains.user_sums, user / WHEEL_FRAM_BLOCK, diagnostics,
-                         WHEEL_DIAGNOSTICS, message, WHEEL_MESSAGE, reply, WHEEL_REPLY);
-    compare(wheel_begin(&whole, address, limit, locked));
+                         WHEEL_DIAGNOSTICS, ports[0].message, WHEEL_MESSAGE, ports[0].reply, WHEEL_REPLY, ports[1].message,
+                         WHEEL_MESSAGE, ports[1].reply, WHEEL_REPLY);
+    compare(wheel_begin(&whole, strap, limit, locked));
 }
 
-static void feed(uint8_t byte) {
+static void feed(uint8_t port, uint8_t byte) {
     const size_t boot = whole.bootloader.length, user = whole.user.length;
-    plain = wheel_step(plain.unit, byte, plains.edac, WHEEL_EDAC, plains.bootloader, boot, plains.bootloader_sums,
-                       boot / WHEEL_FRAM_BLOCK, plains.user, user, plains.user_sums, user / WHEEL_FRAM_BLOCK, diagnostics,
-                       WHEEL_DIAGNOSTICS, message, WHEEL_MESSAGE, reply, WHEEL_REPLY);
-    compare(wheel_byte(&whole, byte));
+    const uint8_t sending0 = any(8) ? 0 : (uint8_t)any(256), sending1 = any(8) ? 0 : (uint8_t)any(256);
+    plain = wheel_step(plain.unit, port, byte, sending0, sending1, plains.edac, WHEEL_EDAC, plains.bootloader, boot,
+                       plains.bootloader_sums, boot / WHEEL_FRAM_BLOCK, plains.user, user, plains.user_sums,
+                       user / WHEEL_FRAM_BLOCK, diagnostics, WHEEL_DIAGNOSTICS, ports[0].message, WHEEL_MESSAGE, ports[0].reply,
+                       WHEEL_REPLY, ports[1].message, WHEEL_MESSAGE, ports[1].reply, WHEEL_REPLY);
+    compare(wheel_byte(&whole, port, byte, sending0, sending1));
 }
 
 /* An address in or near either FRAM, low byte first. */
@@ -106,18 +117,21 @@ static size_t put_data(unsigned code, uint8_t *data) {
         put_address(data + 4);
         return code == 0x02 ? 5 + any(2) : code == 0x03 ? 4 + length : 8;
     }
-    if (code == 0x04) {
-        memset(data, WHEEL_FRAM_STATUS, length);
+    for (size_t i = 0; code == 0x04 && i < length; i++) {
+        data[i] = (uint8_t)(WHEEL_FRAM_STATUS + any(15)); /* and what befell the ports */
     }
     return length;
 }
 
-/* A message for the units, now and then with a wrong byte in it. */
-static void send(void) {
+/* A message for the units on a port, now and then with a wrong byte in it, or to an address that it does not hear. Now and then a
+   byte of the other port comes in between, or one of a port that there is not. */
+static void send(uint8_t port) {
+    static const uint8_t heard[2][2] = {{WHEEL_0_ANSWERED_ON_1, WHEEL_0_ANSWERED_ON_0},
+                                        {WHEEL_1_ANSWERED_ON_1, WHEEL_1_ANSWERED_ON_0}};
     static const uint8_t wrongs[] = {0x55, 0xC0, 0xDB};
     static uint8_t bytes[WHEEL_MESSAGE], line[WHEEL_REPLY];
     const unsigned code = any(13);
-    bytes[0] = any(16) ? 0x41 : 0x42;
+    bytes[0] = (uint8_t)(heard[any(16) ? port : !port][any(2)] + (any(16) ? plain.unit.strap : any(8)));
     bytes[1] = 0x11;
     bytes[2] = (uint8_t)((any(4) ? 0x80 : 0x00) + code);
     const size_t end = 3 + put_data(code, bytes + 3);
@@ -127,29 +141,33 @@ static void send(void) {
     const struct wheel_packed packed = wheel_pack(bytes, end + 2, line, WHEEL_REPLY);
     const size_t wrong = any(8) ? WHEEL_REPLY : any((uint32_t)packed.sent);
     for (size_t i = 0; i < packed.sent; i++) {
-        feed(i != wrong ? line[i] : wrongs[any(3)]);
+        feed(port, i != wrong ? line[i] : wrongs[any(3)]);
+        if (any(32) == 0) {
+            feed(any(16) ? !port : (uint8_t)(2 + any(254)), wrongs[any(3)]);
+        }
     }
 }
 
 int main(void) {
-    feed(0xC0); /* before any set-up */
+    feed(0, 0xC0); /* before any set-up */
     for (unsigned i = 0; i < MESSAGES; i++) {
-        if (any(plain.unit.address ? 20 : 2) == 0) { /* soon after a set-up that was refused */
+        if (any(plain.unit.bootloader_len ? 20 : 2) == 0) { /* soon after a set-up that was refused */
             whole.bootloader.length = (1 + any(BLOCKS)) * WHEEL_FRAM_BLOCK - (any(8) ? 0 : 1);
             whole.user.length = (1 + any(BLOCKS)) * WHEEL_FRAM_BLOCK - (any(8) ? 0 : 1);
-            feed(0x55);
-            set_up(any(8) ? 0x41 : 0xC0, any(8) ? 260 + any(769) : any(260), any(4) ? 0 : (uint8_t)any(256));
+            feed(0, 0x55);
+            set_up((uint8_t)any(any(8) ? 8 : 256), any(8) ? 260 + any(769) : any(260), any(4) ? 0 : (uint8_t)any(256));
         }
-        send();
+        send((uint8_t)any(2));
     }
-    static const unsigned due[] = {0, 1, 2, 3, 4, 5, 6, 8, 9, 10, 20, 22, 29};
+    static const unsigned due[] = {0, 1, 2, 3, 4, 5, 6, 8, 9, 10, 20, 22, 27, 29};
     for (size_t i = 0; i < sizeof due / sizeof due[0]; i++) {
         if (came[due[i]] < 10) {
             printf("BAD: number %u came %lu times, which is too seldom\n", due[i], came[due[i]]);
             return 1;
         }
     }
-    printf("the struct and the plain calls agree over %lu calls, %lu of them locked, %lu with a cost\n", calls, locked_calls,
-           costly_calls);
-    return locked_calls < 10 || costly_calls < 10;
+    printf("the struct and the plain calls agree over %lu calls, %lu of them locked, %lu with a cost, %lu and %lu with a reply on "
+           "port 0 and 1, %lu while a run was thrown away\n",
+           calls, locked_calls, costly_calls, replies[0], replies[1], thrown_calls);
+    return locked_calls < 10 || costly_calls < 10 || replies[0] < 10 || replies[1] < 10 || thrown_calls < 10;
 }

@@ -28,18 +28,18 @@ def message(kind, r):
     n = r.randrange(1, 1025)
     at = FRAM + r.randrange(0, 65536 - 1024)
     if kind == "poke":
-        return b"\x41\x11\x83" + little(at) + r.randbytes(1024)
+        return b"\x61\x11\x83" + little(at) + r.randbytes(1024)
     if kind == "other":
-        return b"\x42\x11\x80" + r.randbytes(1000)
+        return b"\x62\x11\x80" + r.randbytes(1000)
     if kind == "ping":
-        return b"\x41\x11\x80"
+        return b"\x61\x11\x80"
     return r.choice(
         [
-            b"\x41\x11\x80",
-            b"\x41\x11\x83" + little(at) + r.randbytes(n),
-            b"\x41\x11\x82" + little(at) + little(n, 2),
-            b"\x41\x11\x86" + little(FRAM) + little(at),
-            b"\x42\x11\x80" + r.randbytes(n),
+            b"\x61\x11\x80",
+            b"\x61\x11\x83" + little(at) + r.randbytes(n),
+            b"\x61\x11\x82" + little(at) + little(n, 2),
+            b"\x61\x11\x86" + little(FRAM) + little(at),
+            b"\x62\x11\x80" + r.randbytes(n),
         ]
     )
 

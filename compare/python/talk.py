@@ -11,44 +11,17 @@ import time
 
 import serial
 
-FEND, FESC, TFEND, TFESC = 0xC0, 0xDB, 0xDC, 0xDD
-WHEEL, HOST = 0x41, 0x11
-PING, INIT, PEEK, POKE, DIAGNOSTIC, CRC = 0x00, 0x01, 0x02, 0x03, 0x04, 0x06
-READ_FILE, WRITE_FILE, READ_EDAC, WRITE_EDAC = 0x07, 0x08, 0x09, 0x0A
-BOOTLOADER_FRAM, USER_FRAM = 0x20000000, 0x20040000
-APPLICATION, LOCK = 0x20050000, 0xDEADBEEF
+from messages import APPLICATION, BOOTLOADER_FRAM, FEND, USER_FRAM, crc, line, little, unpacked
+from messages import CRC, DIAGNOSTIC, INIT, PEEK, PING, POKE, READ_EDAC, READ_FILE, WRITE_EDAC, WRITE_FILE
+
+WHEEL, HOST = 0x61, 0x11  # strap 1, answered on port 0
+LOCK = 0xDEADBEEF
 FRAM_STATUS, UNLOCKED, LOCKED = 0x06, 0x40, 0xCC
-
-
-def crc(text):
-    """ICD 10.8: start 0xFFFF, polynomial 0x8408, low bit first, no final inversion."""
-    total = 0xFFFF
-    for byte in text:
-        for bit in range(8):
-            odd = (total ^ byte >> bit) & 1
-            total = total >> 1 ^ (0x8408 if odd else 0)
-    return total
-
-
-def little(number, size):
-    return number.to_bytes(size, "little")
-
-
-def packed(message):
-    body = bytearray()
-    for byte in message:
-        body += {FEND: bytes([FESC, TFEND]), FESC: bytes([FESC, TFESC])}.get(byte, bytes([byte]))
-    return bytes([FEND]) + body + bytes([FEND])
-
-
-def unpacked(run):
-    return run.replace(bytes([FESC, TFEND]), bytes([FEND])).replace(bytes([FESC, TFESC]), bytes([FESC]))
 
 
 def ask(port, code, data, ack=0x20):
     """Sends a command with the poll bit, and gives the data of the ACK that comes, or of the NACK where the bit of one is clear."""
-    message = bytes([WHEEL, HOST, 0x80 | code]) + data
-    port.write(packed(message + little(crc(message), 2)))
+    port.write(line(WHEEL, HOST, 0x80 | code, data))
     assert port.read(1) == bytes([FEND]), "no reply"
     run = port.read_until(bytes([FEND]))
     assert run.endswith(bytes([FEND])), "a reply that does not end"

@@ -1,4 +1,4 @@
-//! What a unit is between two bytes: the record that each call takes and hands back (01, The unit and its neighbours).
+//! What a unit is between two bytes: the record that each call takes and hands back (01, The unit and its neighbours; 02, T-01).
 //! The caller keeps it and may hand in any, so every field is open.
 
 #[derive(Clone, Copy, Debug, PartialEq, Eq)]
@@ -7,8 +7,8 @@ pub enum Mode {
     Application,
 }
 
-/// Where the receiver stands in the line's bytes.
-#[derive(Clone, Copy, Debug, PartialEq, Eq)]
+/// Where a receiver stands in the bytes of its port.
+#[derive(Clone, Copy, Debug, PartialEq, Eq, PartialOrd, Ord)]
 pub enum Place {
     /// No FEND has come yet.
     Fresh,
@@ -18,11 +18,26 @@ pub enum Place {
     Escape,
     /// In a run that has a framing fault.
     Fault,
+    /// In a run that is thrown away up to its FEND, since a reply left on this port (02, T-01).
+    Thrown,
 }
+
+/// What one port has received.
+#[derive(Clone, Copy, Debug, PartialEq, Eq)]
+pub struct Receiver {
+    pub place: Place,
+    /// The bytes unpacked from this run.
+    pub count: usize,
+}
+
+pub const FRESH: Receiver = Receiver {
+    place: Place::Fresh,
+    count: 0,
+};
 
 #[derive(Clone, Copy, Debug, PartialEq, Eq)]
 pub struct Record {
-    pub address: u8,
+    pub strap: u8,
     pub mode: Mode,
     /// The lengths of bootloader FRAM and of user FRAM, as they were set up.
     pub bootloader_len: usize,
@@ -31,18 +46,17 @@ pub struct Record {
     pub locked: u8,
     /// The most data bytes of a message, as it was set up (02, T-06).
     pub limit: u16,
-    pub place: Place,
-    pub count: usize,
+    /// Those of port 0 and of port 1.
+    pub receivers: [Receiver; 2],
 }
 
-/// What a refused set-up hands back: every later call with it is refused by its address.
+/// What a refused set-up hands back: every later call with it is refused by its strap.
 pub const REFUSED: Record = Record {
-    address: 0,
+    strap: 8,
     mode: Mode::Bootloader,
     bootloader_len: 0,
     fram_len: 0,
     locked: 0,
     limit: 0,
-    place: Place::Fresh,
-    count: 0,
+    receivers: [FRESH; 2],
 };

@@ -2,19 +2,21 @@
 //! that are as long as they say and do not overlap, which Rust's own slices are, so each wrapper is safe as it stands.
 
 use crate::proved;
-use crate::record::{Mode, Place, Record};
-use crate::wheel::{Lent, Stepped, Wheel};
+use crate::record::{Mode, Place, Receiver, Record};
+use crate::wheel::{Heard, Lent, Stepped, Wheel};
 use crate::Part;
 
 #[repr(C)]
 struct WheelUnit {
     bootloader_len: u64,
     fram_len: u64,
-    count: u64,
+    count0: u64,
+    count1: u64,
     limit: u16,
-    address: u8,
+    strap: u8,
     mode: u8,
-    place: u8,
+    place0: u8,
+    place1: u8,
     locked: u8,
 }
 
@@ -23,6 +25,7 @@ struct WheelStepped {
     unit: WheelUnit,
     sent: u64,
     answer: u8,
+    port: u8,
     cost: u32,
 }
 
@@ -34,7 +37,7 @@ struct WheelPacked {
 
 extern "C" {
     fn wheel_set_up(
-        address: u8,
+        strap: u8,
         limit: u64,
         locked: u8,
         edac: *const u8,
@@ -49,15 +52,22 @@ extern "C" {
         sums_len: usize,
         diagnostics: *mut u32,
         diagnostics_len: usize,
-        message: *const u8,
-        message_len: usize,
-        reply: *const u8,
-        reply_len: usize,
+        message0: *const u8,
+        message0_len: usize,
+        reply0: *const u8,
+        reply0_len: usize,
+        message1: *const u8,
+        message1_len: usize,
+        reply1: *const u8,
+        reply1_len: usize,
     ) -> WheelStepped;
 
     fn wheel_step(
         unit: WheelUnit,
+        port: u8,
         byte: u8,
+        sending0: u8,
+        sending1: u8,
         edac: *mut u8,
         edac_len: usize,
         bootloader: *mut u8,
@@ -70,10 +80,14 @@ extern "C" {
         sums_len: usize,
         diagnostics: *mut u32,
         diagnostics_len: usize,
-        message: *mut u8,
-        message_len: usize,
-        reply: *mut u8,
-        reply_len: usize,
+        message0: *mut u8,
+        message0_len: usize,
+        reply0: *mut u8,
+        reply0_len: usize,
+        message1: *mut u8,
+        message1_len: usize,
+        reply1: *mut u8,
+        reply1_len: usize,
     ) -> WheelStepped;
 
     fn wheel_pack(
@@ -96,32 +110,53 @@ extern "C" {
 
 impl From<Record> for WheelUnit {
     fn from(record: Record) -> WheelUnit {
+        let [zero, one] = record.receivers;
         WheelUnit {
             bootloader_len: record.bootloader_len as u64,
             fram_len: record.fram_len as u64,
-            count: record.count as u64,
+            count0: zero.count as u64,
+            count1: one.count as u64,
             limit: record.limit,
-            address: record.address,
+            strap: record.strap,
             mode: match record.mode {
                 Mode::Bootloader => 0,
                 Mode::Application => 1,
             },
-            place: match record.place {
-                Place::Fresh => 0,
-                Place::Run => 1,
-                Place::Escape => 2,
-                Place::Fault => 3,
-            },
+            place0: number(zero.place),
+            place1: number(one.place),
             locked: record.locked,
         }
     }
+}
+
+fn number(place: Place) -> u8 {
+    match place {
+        Place::Fresh => 0,
+        Place::Run => 1,
+        Place::Escape => 2,
+        Place::Fault => 3,
+        Place::Thrown => 4,
+    }
+}
+
+fn receiver(place: u8, count: u64) -> Receiver {
+    let place = match place {
+        0 => Place::Fresh,
+        1 => Place::Run,
+        2 => Place::Escape,
+        3 => Place::Fault,
+        4 => Place::Thrown,
+        number => panic!("the face handed back place {number}"),
+    };
+    let count = length(count);
+    Receiver { place, count }
 }
 
 /// A number that no mode or place has is a fault of the face.
 impl From<WheelUnit> for Record {
     fn from(unit: WheelUnit) -> Record {
         Record {
-            address: unit.address,
+            strap: unit.strap,
             mode: match unit.mode {
                 0 => Mode::Bootloader,
                 1 => Mode::Application,
@@ -131,14 +166,10 @@ impl From<WheelUnit> for Record {
             fram_len: length(unit.fram_len),
             locked: unit.locked,
             limit: unit.limit,
-            place: match unit.place {
-                0 => Place::Fresh,
-                1 => Place::Run,
-                2 => Place::Escape,
-                3 => Place::Fault,
-                number => panic!("the face handed back place {number}"),
-            },
-            count: length(unit.count),
+            receivers: [
+                receiver(unit.place0, unit.count0),
+                receiver(unit.place1, unit.count1),
+            ],
         }
     }
 }
@@ -155,16 +186,18 @@ impl From<WheelStepped> for Stepped {
             record: stepped.unit.into(),
             answer: stepped.answer,
             sent: length(stepped.sent),
+            port: stepped.port,
             cost: stepped.cost,
         }
     }
 }
 
 /// Set-up, which changes nothing that is lent but the sums and the low byte of diagnostic 0x06.
-pub fn set_up(address: u8, limit: u64, locked: u8, lent: Lent) -> Stepped {
+pub fn set_up(strap: u8, limit: u64, locked: u8, lent: Lent) -> Stepped {
+    let [zero, one] = lent.ports;
     let stepped = unsafe {
         wheel_set_up(
-            address,
+            strap,
             limit,
             locked,
             lent.edac.as_ptr(),
@@ -179,21 +212,29 @@ pub fn set_up(address: u8, limit: u64, locked: u8, lent: Lent) -> Stepped {
             lent.user.sums.len(),
             lent.diagnostics.as_mut_ptr(),
             lent.diagnostics.len(),
-            lent.message.as_ptr(),
-            lent.message.len(),
-            lent.reply.as_ptr(),
-            lent.reply.len(),
+            zero.message.as_ptr(),
+            zero.message.len(),
+            zero.reply.as_ptr(),
+            zero.reply.len(),
+            one.message.as_ptr(),
+            one.message.len(),
+            one.reply.as_ptr(),
+            one.reply.len(),
         )
     };
     stepped.into()
 }
 
-/// One byte. What is sent stands at the start of the reply buffer.
-pub fn step(record: Record, byte: u8, lent: Lent) -> Stepped {
+/// One byte. What is sent stands at the start of the reply buffer of its port.
+pub fn step(record: Record, heard: Heard, lent: Lent) -> Stepped {
+    let [zero, one] = lent.ports;
     let stepped = unsafe {
         wheel_step(
             record.into(),
-            byte,
+            heard.port,
+            heard.byte,
+            heard.sending[0],
+            heard.sending[1],
             lent.edac.as_mut_ptr(),
             lent.edac.len(),
             lent.bootloader.bytes.as_mut_ptr(),
@@ -206,10 +247,14 @@ pub fn step(record: Record, byte: u8, lent: Lent) -> Stepped {
             lent.user.sums.len(),
             lent.diagnostics.as_mut_ptr(),
             lent.diagnostics.len(),
-            lent.message.as_mut_ptr(),
-            lent.message.len(),
-            lent.reply.as_mut_ptr(),
-            lent.reply.len(),
+            zero.message.as_mut_ptr(),
+            zero.message.len(),
+            zero.reply.as_mut_ptr(),
+            zero.reply.len(),
+            one.message.as_mut_ptr(),
+            one.message.len(),
+            one.reply.as_mut_ptr(),
+            one.reply.len(),
         )
     };
     stepped.into()
@@ -254,12 +299,12 @@ pub fn store_list(limit: u64, edac: &mut [u8], list: &[u8]) -> u8 {
 pub struct Proved;
 
 impl Wheel for Proved {
-    fn set_up(&self, address: u8, limit: u64, locked: u8, lent: Lent) -> Stepped {
-        set_up(address, limit, locked, lent)
+    fn set_up(&self, strap: u8, limit: u64, locked: u8, lent: Lent) -> Stepped {
+        set_up(strap, limit, locked, lent)
     }
 
-    fn step(&self, record: Record, byte: u8, lent: Lent) -> Stepped {
-        step(record, byte, lent)
+    fn step(&self, record: Record, heard: Heard, lent: Lent) -> Stepped {
+        step(record, heard, lent)
     }
 
     fn pack(&self, message: &[u8], reply: &mut [u8]) -> (u8, usize) {

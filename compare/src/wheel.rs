@@ -10,30 +10,45 @@ pub struct Fram<'a> {
     pub sums: &'a mut [u16],
 }
 
+/// The two buffers of a port: of the message that comes in, and of the reply that leaves.
+pub struct Port<'a> {
+    pub message: &'a mut [u8],
+    pub reply: &'a mut [u8],
+}
+
 /// What a call is lent.
 pub struct Lent<'a> {
     pub edac: &'a mut [u8],
     pub bootloader: Fram<'a>,
     pub user: Fram<'a>,
     pub diagnostics: &'a mut [u32],
-    pub message: &'a mut [u8],
-    pub reply: &'a mut [u8],
+    pub ports: [Port<'a>; 2],
 }
 
-/// What a call hands back: the record, 01's number of the answer, the length of what is sent, and what a CRC command cost
-/// (02, T-13), which is 0 for all else.
+/// One byte as the caller tells it (02, T-01): the port on which it came, and for each port whether it is sending now, which it
+/// is by any number but 0.
+#[derive(Clone, Copy, Debug, PartialEq, Eq)]
+pub struct Heard {
+    pub port: u8,
+    pub byte: u8,
+    pub sending: [u8; 2],
+}
+
+/// What a call hands back: the record, 01's number of the answer, the length of what is sent and the port on which it is, which
+/// is 0 where nothing is sent, and what a CRC command cost (02, T-13), which is 0 for all else.
 #[derive(Clone, Copy, Debug, PartialEq, Eq)]
 pub struct Stepped {
     pub record: Record,
     pub answer: u8,
     pub sent: usize,
+    pub port: u8,
     pub cost: u32,
 }
 
 pub trait Wheel {
     /// Bootloader FRAM is locked where `locked` is any number but 0.
-    fn set_up(&self, address: u8, limit: u64, locked: u8, lent: Lent) -> Stepped;
-    fn step(&self, record: Record, byte: u8, lent: Lent) -> Stepped;
+    fn set_up(&self, strap: u8, limit: u64, locked: u8, lent: Lent) -> Stepped;
+    fn step(&self, record: Record, heard: Heard, lent: Lent) -> Stepped;
     /// The answer and the length of the packed message.
     fn pack(&self, message: &[u8], reply: &mut [u8]) -> (u8, usize);
     /// The joined part, or the number of the refusal.
@@ -53,21 +68,21 @@ macro_rules! wheel_of_module {
         impl $crate::wheel::Wheel for $name {
             fn set_up(
                 &self,
-                address: u8,
+                strap: u8,
                 limit: u64,
                 locked: u8,
                 lent: $crate::wheel::Lent,
             ) -> $crate::wheel::Stepped {
-                $($module)::+::set_up(address, limit, locked, lent)
+                $($module)::+::set_up(strap, limit, locked, lent)
             }
 
             fn step(
                 &self,
                 record: $crate::record::Record,
-                byte: u8,
+                heard: $crate::wheel::Heard,
                 lent: $crate::wheel::Lent,
             ) -> $crate::wheel::Stepped {
-                $($module)::+::step(record, byte, lent)
+                $($module)::+::step(record, heard, lent)
             }
 
             fn pack(&self, message: &[u8], reply: &mut [u8]) -> (u8, usize) {

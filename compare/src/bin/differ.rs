@@ -1,8 +1,8 @@
 //! `differ MEGABYTES [SEED]` or `differ forever`: holds the proved unit and the second program against each other over seeded
 //! streams of line bytes.
 //! Sessions have the seeds SEED, SEED + 1 and so on, so `differ 1 SEED` with a printed seed has a difference again at once.
-//! A run of 10 megabytes or more also fails where a read-only row, a file, a limit, an edge of the two FRAMs, their lock or a range
-//! of CRC was not met in every way that there is, or the highest cost of CRC was not reached in each FRAM.
+//! A run of 10 megabytes or more also fails where a read-only row, a file, a limit, an edge of the two FRAMs, their lock, a range
+//! of CRC or one of the two ports was not met in every way that there is, or the highest cost of CRC was not reached in each FRAM.
 
 use compare::differ::{session, Tally};
 use compare::wheel::{Second, Wheel};

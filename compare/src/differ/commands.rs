@@ -235,8 +235,8 @@ fn diagnostic(seeded: &mut Seeded, limit: usize) -> Vec<u8> {
     if seeded.one_in(8) && length > 0 {
         channels[seeded.below(length)] = seeded.pick(&[0x1F, 0x20, 0x80, 0xFF]);
     }
-    if seeded.one_in(4) && length + 4 <= most {
-        channels.extend([0x07, 0x08, 0x09, 0x0A]);
+    if seeded.one_in(4) && length + 14 <= most {
+        channels.extend(0x07..=0x14);
     }
     channels
 }

@@ -44,7 +44,7 @@ pub fn largest(pair: &mut Pair, seeded: &mut Seeded, which: usize) -> Played {
 }
 
 fn send(pair: &mut Pair, seeded: &mut Seeded, data: &[u8]) -> Played {
-    let message = lines::message_of(seeded, &pair.record, CRC, data);
+    let message = lines::message_of(seeded, &pair.record, pair.port, CRC, data);
     pair.bytes(&lines::escaped(&message))?;
     pair.byte(FEND)?;
     Ok(())

@@ -35,7 +35,7 @@ pub fn about_the_lock(pair: &mut Pair, seeded: &mut Seeded) -> Played {
     for _ in 0..2 + seeded.below(5) {
         altered(pair, seeded);
         let (code, data) = one_about_the_lock(seeded, &pair.record);
-        let message = lines::message_of(seeded, &pair.record, code, &data);
+        let message = lines::message_of(seeded, &pair.record, pair.port, code, &data);
         pair.bytes(&lines::escaped(&message))?;
         if seeded.one_in(6) {
             pair.record.locked = locked(seeded);

@@ -2,8 +2,9 @@
 
 use super::pair::Pair;
 use super::play::{any_byte, Played};
+use super::ports::PLACES;
 use super::{commands, lines};
-use crate::record::{Place, Record};
+use crate::record::{Receiver, Record};
 use crate::Seeded;
 use std::collections::BTreeMap;
 use std::fmt;
@@ -14,8 +15,6 @@ const PING: u8 = 0x00;
 /// The limits that a unit can have.
 pub const LEAST: u16 = 260;
 pub const MOST: u16 = 1_028;
-
-const PLACES: [Place; 4] = [Place::Fresh, Place::Run, Place::Escape, Place::Fault];
 
 /// A limit that a unit can have: often the highest, or one at the ends, or any.
 pub fn any(seeded: &mut Seeded) -> u16 {
@@ -49,14 +48,14 @@ pub fn wide_none(seeded: &mut Seeded) -> u64 {
 }
 
 /// A PING that is sound on a bus with the highest limit, with as much data as this limit allows, or more.
-pub fn long_ping(seeded: &mut Seeded, record: &Record) -> Vec<u8> {
+pub fn long_ping(seeded: &mut Seeded, record: &Record, port: usize) -> Vec<u8> {
     let more = match seeded.below(2) {
         0 => seeded.below(3),
         _ => seeded.below(usize::from(MOST - record.limit) + 1),
     };
     let length = (usize::from(record.limit) + more).min(MOST.into());
     let data = commands::bytes(seeded, length);
-    lines::message_of(seeded, record, PING, &data)
+    lines::message_of(seeded, record, port, PING, &data)
 }
 
 /// The caller hands in another limit in the midst of a run that is about as long as one of the two allows. The unit believes the
@@ -67,7 +66,8 @@ pub fn another(pair: &mut Pair, seeded: &mut Seeded) -> Played {
     pair.record.limit = now;
     let length = usize::from(seeded.pick(&[now, next])) - 1 + seeded.below(4);
     let data = commands::bytes(seeded, length);
-    let line = lines::escaped(&lines::message_of(seeded, &pair.record, PING, &data));
+    let ping = lines::message_of(seeded, &pair.record, pair.port, PING, &data);
+    let line = lines::escaped(&ping);
     let at = match seeded.below(3) {
         0 => line.len(),
         1 => seeded.below(line.len()),
@@ -83,14 +83,14 @@ pub fn another(pair: &mut Pair, seeded: &mut Seeded) -> Played {
 /// A set-up and some bytes with a limit that no unit can have, and nothing else wrong but the count now and then.
 pub fn wrong(pair: &mut Pair, seeded: &mut Seeded) -> Played {
     let record = pair.record;
-    pair.set_up(record.address, wide_none(seeded), record.locked)?;
+    pair.set_up(record.strap, wide_none(seeded), record.locked)?;
     pair.record = Record {
         limit: none(seeded),
-        place: seeded.pick(&PLACES),
         ..record
     };
+    pair.receiver().place = seeded.pick(&PLACES);
     if seeded.one_in(4) {
-        pair.record.count = seeded.pick(&[7, 1_033, 1_034, 1_035, usize::MAX]);
+        pair.receiver().count = seeded.pick(&[7, 1_033, 1_034, 1_035, usize::MAX]);
     }
     for _ in 0..1 + seeded.below(3) {
         pair.byte(any_byte(seeded))?;
@@ -111,12 +111,12 @@ pub struct Limits {
 const ENDS: [u16; 4] = [LEAST, LEAST + 1, MOST - 1, MOST];
 
 impl Limits {
-    /// A byte that was not refused, and the record that was handed in.
-    pub fn byte(&mut self, record: &Record, byte: u8) {
-        *self.bytes.entry(record.limit).or_default() += 1;
-        if record.count > usize::from(record.limit) + 6 {
+    /// A byte that was not refused, with the limit and the receiver that were handed in.
+    pub fn byte(&mut self, limit: u16, receiver: Receiver, byte: u8) {
+        *self.bytes.entry(limit).or_default() += 1;
+        if receiver.count > usize::from(limit) + 6 {
             for (place, times) in PLACES.iter().zip(&mut self.beyond) {
-                times[usize::from(byte != FEND)] += u64::from(*place == record.place);
+                times[usize::from(byte != FEND)] += u64::from(*place == receiver.place);
             }
         }
     }

@@ -1,29 +1,41 @@
 //! What goes over the line: messages sound and spoiled, as runs of line bytes, and noise.
 
-use super::commands;
+use super::{commands, ports};
 use crate::record::Record;
 use crate::{plain, Seeded};
 
 const FEND: u8 = 0xC0;
 const FESC: u8 = 0xDB;
 
-/// A sound message for a unit with this record.
-pub fn message(seeded: &mut Seeded, record: &Record) -> Vec<u8> {
+/// A sound message on a port for a unit with this record.
+pub fn message(seeded: &mut Seeded, record: &Record, port: usize) -> Vec<u8> {
     let (code, data) = commands::command(seeded, record);
-    message_of(seeded, record, code, &data)
+    message_of(seeded, record, port, code, &data)
 }
 
-/// A sound message with this code and data.
-pub fn message_of(seeded: &mut Seeded, record: &Record, code: u8, data: &[u8]) -> Vec<u8> {
+/// A sound message with this code and data, to either address that the port hears.
+pub fn message_of(
+    seeded: &mut Seeded,
+    record: &Record,
+    port: usize,
+    code: u8,
+    data: &[u8],
+) -> Vec<u8> {
+    let address = seeded.pick(&ports::HEARD[port]).wrapping_add(record.strap);
+    message_to(seeded, address, code, data)
+}
+
+/// A sound message to an address.
+pub fn message_to(seeded: &mut Seeded, address: u8, code: u8, data: &[u8]) -> Vec<u8> {
     // Poll mostly set, since a reply shows what was done; B and the incoming ACK as it falls.
     let poll = if seeded.one_in(5) { 0x00 } else { 0x80 };
     let control = poll | seeded.pick(&[0x00, 0x20, 0x40, 0x60]) | code;
     let source = match seeded.below(4) {
-        0 => seeded.pick(&[0x00, FEND, FESC, 0xDC, 0xDD, record.address]),
+        0 => seeded.pick(&[0x00, FEND, FESC, 0xDC, 0xDD, address]),
         1 => seeded.number() as u8,
         _ => 0x11,
     };
-    let mut message = vec![record.address, source, control];
+    let mut message = vec![address, source, control];
     message.extend(data);
     summed(message)
 }
@@ -48,9 +60,9 @@ pub fn escaped(message: &[u8]) -> Vec<u8> {
     line
 }
 
-/// A run of line bytes that is not a sound message for this unit, though mostly nearly one.
-pub fn spoiled(seeded: &mut Seeded, record: &Record) -> Vec<u8> {
-    let sound = message(seeded, record);
+/// A run of line bytes that is not a sound message for this unit on this port, though mostly nearly one.
+pub fn spoiled(seeded: &mut Seeded, record: &Record, port: usize) -> Vec<u8> {
+    let sound = message(seeded, record, port);
     match seeded.below(9) {
         0 => escaped(&one_bit_off(seeded, sound)),
         1 => escaped(&sum_reversed(sound)),
@@ -78,9 +90,12 @@ fn sum_reversed(mut message: Vec<u8>) -> Vec<u8> {
 
 /// Sound, or with a wrong CRC as well, which is what is to be blamed.
 fn for_another(seeded: &mut Seeded, mut message: Vec<u8>) -> Vec<u8> {
-    message[0] = match seeded.below(3) {
+    message[0] = match seeded.below(5) {
         0 => seeded.pick(&[0x00, FEND, FESC]),
         1 => message[0] ^ 1 << seeded.below(8),
+        // Another strap's, and this unit's on the other port.
+        2 => message[0] & 0xF0 | seeded.below(9) as u8,
+        3 => message[0] ^ seeded.pick(&[0x10, 0x30]),
         _ => seeded.number() as u8,
     };
     if seeded.one_in(3) {

@@ -47,7 +47,8 @@ pub fn asked(pair: &mut Pair, seeded: &mut Seeded) -> Played {
 /// exactly where the list is fit, and leave in memory what storing left. A list that no message can carry is an oversize run,
 /// so not done either.
 pub fn sent(pair: &mut Pair, seeded: &mut Seeded) -> Played {
-    // Closes what is open, which may leave the unit in either mode.
+    // Closes what is open, which may leave the unit in either mode. No command may come on the other port meanwhile.
+    pair.aside.woven = false;
     pair.byte(FEND)?;
     pair.record.mode = Mode::Application;
     let limit = pair.record.limit.into();
@@ -57,12 +58,11 @@ pub fn sent(pair: &mut Pair, seeded: &mut Seeded) -> Played {
     pair.store_list(limit, EDAC, &list)?;
     let stored = pair.edac();
     pair.alter(|lent| lent.edac.copy_from_slice(&held));
-    let message = lines::message_of(seeded, &pair.record, WRITE_FILE, &list);
-    let done = if message[2] & 0x80 == 0 { 2 } else { 1 };
+    let message = lines::message_of(seeded, &pair.record, pair.port, WRITE_FILE, &list);
     pair.bytes(&lines::escaped(&message))?;
     let answer = pair.byte(FEND)?;
     pair.tally.sent.add(answer);
-    if (answer == done) != fit {
+    if matches!(answer, 1 | 2) != fit {
         return Err(format!(
             "{list:x?} judged {fit}, answered {answer}, limit {limit}"
         ));

@@ -1,10 +1,11 @@
-//! Two wheels side by side over seeded streams of line bytes: after every byte the answer, the record, the length sent and the
-//! cost agree, and after every FEND and every refusal every lent buffer whole, with the cells beyond what was lent.
+//! Two wheels side by side over seeded streams of line bytes of both ports: after every byte the answer, the record, the length
+//! sent, its port and the cost agree, and every lent buffer whole, with the cells beyond what was lent; a large FRAM only after
+//! every FEND and every number but 0.
 //!
-//! A session is a unit's life from its seed alone: `play` chooses what happens, `commands` and `lines` make the bytes, `limits`
-//! hands in limits, `frams` locks bootloader FRAM, `costs` asks for the CRC of ranges of every kind, `lists` asks about lists of
-//! files and sends them, `pair` feeds both wheels and holds them against each other, `tally`, `rows`, `limits`, `frams` and
-//! `costs` keep what was reached.
+//! A session is a unit's life from its seed alone: `play` chooses what happens, `commands` and `lines` make the bytes, `ports`
+//! weaves those of the other port in and says which ports are sending, `limits` hands in limits, `frams` locks bootloader FRAM,
+//! `costs` asks for the CRC of ranges of every kind, `lists` asks about lists of files and sends them, `pair` feeds both wheels
+//! and holds them against each other, `tally`, `rows`, `limits`, `frams`, `costs` and `traffic` keep what was reached.
 
 mod commands;
 mod costs;
@@ -14,8 +15,10 @@ mod lines;
 mod lists;
 mod pair;
 mod play;
+mod ports;
 mod rows;
 mod tally;
+mod traffic;
 
 use crate::wheel::Wheel;
 use crate::Seeded;

@@ -1,8 +1,10 @@
 //! Two wheels over equal buffers: each call is made on both, and what they hand back and what they left must agree.
 
+use super::ports::Aside;
 use super::tally::Tally;
-use crate::record::{Record, REFUSED};
-use crate::wheel::{Fram, Lent, Wheel};
+use super::traffic::Call;
+use crate::record::{Receiver, Record, REFUSED};
+use crate::wheel::{Fram, Heard, Lent, Port, Stepped, Wheel};
 use crate::{Part, Seeded};
 use std::panic::{catch_unwind, AssertUnwindSafe};
 
@@ -10,6 +12,9 @@ const FEND: u8 = 0xC0;
 
 /// Cells beyond the right length of each buffer, so that a longer one can be lent and a write past the end shows.
 const SLACK: usize = 512;
+
+/// An FRAM above this is compared at FENDs and at numbers other than 0 only.
+const LONG: usize = 4_096;
 
 /// Which of two FRAMs, wherever a pair has both.
 pub const BOOTLOADER: usize = 0;
@@ -21,8 +26,7 @@ pub struct Buffers {
     pub edac: Vec<u8>,
     pub frams: [Chip; 2],
     pub diagnostics: Vec<u32>,
-    pub message: Vec<u8>,
-    pub reply: Vec<u8>,
+    pub ports: [Lines; 2],
 }
 
 /// An FRAM and its sums.
@@ -32,14 +36,36 @@ pub struct Chip {
     pub sums: Vec<u16>,
 }
 
+/// The two buffers of a port.
+#[derive(Clone, PartialEq)]
+pub struct Lines {
+    pub message: Vec<u8>,
+    pub reply: Vec<u8>,
+}
+
 /// How many cells of each buffer the next call is lent.
 #[derive(Clone, Copy, Debug, PartialEq)]
 pub struct Lengths {
     pub edac: usize,
     pub frams: [ChipLengths; 2],
     pub diagnostics: usize,
+    pub ports: [LineLengths; 2],
+}
+
+#[derive(Clone, Copy, Debug, PartialEq)]
+pub struct LineLengths {
     pub message: usize,
     pub reply: usize,
+}
+
+impl LineLengths {
+    /// As much as a port needs, or somewhat more.
+    fn any(seeded: &mut Seeded) -> LineLengths {
+        LineLengths {
+            message: 1_033 + seeded.pick(&[0, 0, 0, 1, 200]),
+            reply: 2_068 + seeded.pick(&[0, 0, 0, 1, 200]),
+        }
+    }
 }
 
 #[derive(Clone, Copy, Debug, PartialEq)]
@@ -66,6 +92,16 @@ pub struct Pair<'a> {
     pub lengths: Lengths,
     pub record: Record,
     pub offset: u64,
+    /// The port that bytes go to now.
+    pub port: usize,
+    /// The number that a call is told in its place.
+    pub misnamed: Option<u8>,
+    /// What a call is told of each port: whether it is sending.
+    pub sending: [u8; 2],
+    /// What comes on the other port in between.
+    pub aside: Aside,
+    /// What the last call handed back.
+    handed: Record,
 }
 
 /// The largest FRAM that may be fitted.
@@ -98,8 +134,7 @@ impl<'a> Pair<'a> {
             edac: 1_536,
             frams: fram_lens(seed, seeded).map(ChipLengths::of),
             diagnostics: 31,
-            message: 1_033 + seeded.pick(&[0, 0, 0, 1, 200]),
-            reply: 2_068 + seeded.pick(&[0, 0, 0, 1, 200]),
+            ports: [LineLengths::any(seeded), LineLengths::any(seeded)],
         };
         let cells = Buffers {
             edac: seeded.bytes(lengths.edac + SLACK),
@@ -112,8 +147,10 @@ impl<'a> Pair<'a> {
             diagnostics: (0..lengths.diagnostics + SLACK)
                 .map(|_| seeded.number() as u32)
                 .collect(),
-            message: seeded.bytes(lengths.message + SLACK),
-            reply: seeded.bytes(lengths.reply + SLACK),
+            ports: lengths.ports.map(|lengths| Lines {
+                message: seeded.bytes(lengths.message + SLACK),
+                reply: seeded.bytes(lengths.reply + SLACK),
+            }),
         };
         Pair {
             first,
@@ -123,43 +160,92 @@ impl<'a> Pair<'a> {
             lengths,
             record: REFUSED,
             offset: 0,
+            port: 0,
+            misnamed: None,
+            sending: [0; 2],
+            aside: Aside::new(seeded.number()),
+            handed: REFUSED,
         }
     }
 
-    /// One byte to both wheels. Their record is kept for the next call.
+    /// The receiver of the port that bytes go to now.
+    pub fn receiver(&mut self) -> &mut Receiver {
+        &mut self.record.receivers[self.port]
+    }
+
+    /// One byte to both wheels, after those that come on the other port before it.
     pub fn byte(&mut self, byte: u8) -> Result<u8, String> {
-        let code = self.sides[0].message[2] & 0x1F;
+        let other = 1 - self.port;
+        while let Some(between) = self.aside.next(&self.record, other) {
+            self.sending = self.aside.sending(self.sending);
+            self.on(other, between)?;
+        }
+        self.on(self.port, byte)
+    }
+
+    /// One byte on a port to both wheels, with nothing before it.
+    pub fn on(&mut self, port: usize, byte: u8) -> Result<u8, String> {
+        let heard = Heard {
+            port: self.misnamed.unwrap_or(port as u8),
+            byte,
+            sending: self.sending,
+        };
+        Ok(self.heard(heard)?.answer)
+    }
+
+    /// One call with a byte. The record is kept for the next one.
+    fn heard(&mut self, heard: Heard) -> Result<Stepped, String> {
         let (record, lengths) = (self.record, self.lengths);
         let [left, right] = &mut self.sides;
         // For the tally: what a command finds, if this closes one.
-        let held = (byte == FEND).then(|| left.edac.clone());
-        let call = || format!("byte {byte:#04x}, {record:?}, {lengths:?}");
-        let one = returned(|| self.first.step(record, byte, lent(left, &lengths)), call)?;
-        let two = returned(
-            || self.second.step(record, byte, lent(right, &lengths)),
-            call,
-        )?;
+        let held = (heard.byte == FEND).then(|| (left.edac.clone(), left.diagnostics.clone()));
+        let call = || format!("{heard:x?}, {record:?}, {lengths:?}");
+        let made = |wheel: &dyn Wheel, side| {
+            returned(|| wheel.step(record, heard, lent(side, &lengths)), call)
+        };
+        let (one, two) = (made(self.first, left)?, made(self.second, right)?);
         agree(one, two, call)?;
-        if byte == FEND || one.answer != 0 {
-            same_buffers(left, right, call)?;
+        let all = heard.byte == FEND || one.answer != 0;
+        same_buffers(left, right, all, call)?;
+        self.count(heard, &one, held);
+        self.offset += 1;
+        (self.record, self.handed) = (one.record, one.record);
+        Ok(one)
+    }
+
+    /// Tells the tally what a byte came to.
+    fn count(&mut self, heard: Heard, stepped: &Stepped, held: Option<(Vec<u8>, Vec<u32>)>) {
+        let (record, answer, left) = (self.record, stepped.answer, &self.sides[0]);
+        let port = usize::from(heard.port);
+        let message = left.ports.get(port).map_or(&[][..], |port| &port.message);
+        let code = message.get(2).map_or(0, |control| control & 0x1F);
+        self.tally.byte(answer, code);
+        self.tally.frams.byte(&record, answer);
+        let (edac, diagnostics) = held.unwrap_or_default();
+        self.tally.ports.byte(&Call {
+            record: &record,
+            lengths: &self.lengths,
+            handed: &self.handed,
+            heard,
+            stepped,
+            message,
+            diagnostics: &diagnostics,
+        });
+        if answer >= 20 {
+            return;
         }
-        self.tally.byte(one.answer, code);
-        if one.answer < 20 {
-            self.tally.limits.byte(&record, byte);
-        }
-        self.tally.frams.byte(&record, one.answer);
-        if matches!(one.answer, 1..=4 | 10) {
-            let (data, chip) = (&left.message[3..record.count - 2], &left.frams[BOOTLOADER]);
+        let receiver = record.receivers[port];
+        let limits = &mut self.tally.limits;
+        limits.byte(record.limit, receiver, heard.byte);
+        if matches!(answer, 1..=4 | 10) {
+            let (data, chip) = (&message[3..receiver.count - 2], &left.frams[BOOTLOADER]);
             let frams = &mut self.tally.frams;
-            frams.answered(&record, code, data, one.answer, chip);
-            self.tally.costs.answered(&record, code, data, &one);
-            if let (1 | 2, Some(held)) = (one.answer, held) {
-                self.tally.rows.done(code, data, &held);
+            frams.answered(&record, code, data, answer, chip);
+            self.tally.costs.answered(&record, code, data, stepped);
+            if matches!(answer, 1 | 2) {
+                self.tally.rows.done(code, data, &edac);
             }
         }
-        self.offset += 1;
-        self.record = one.record;
-        Ok(one.answer)
     }
 
     pub fn bytes(&mut self, bytes: &[u8]) -> Result<(), String> {
@@ -169,36 +255,38 @@ impl<'a> Pair<'a> {
         Ok(())
     }
 
-    pub fn set_up(&mut self, address: u8, limit: u64, locked: u8) -> Result<u8, String> {
+    pub fn set_up(&mut self, strap: u8, limit: u64, locked: u8) -> Result<u8, String> {
         let lengths = self.lengths;
         let [left, right] = &mut self.sides;
         let call =
-            || format!("set-up of {address:#04x}, limit {limit}, locked {locked}, {lengths:?}");
+            || format!("set-up with strap {strap}, limit {limit}, locked {locked}, {lengths:?}");
         let made = |wheel: &dyn Wheel, side| {
             returned(
-                || wheel.set_up(address, limit, locked, lent(side, &lengths)),
+                || wheel.set_up(strap, limit, locked, lent(side, &lengths)),
                 call,
             )
         };
         let (one, two) = (made(self.first, left)?, made(self.second, right)?);
         agree(one, two, call)?;
-        same_buffers(left, right, call)?;
+        same_buffers(left, right, true, call)?;
         self.tally.set_ups.add(one.answer);
         self.tally.frams.set_up(locked, one.answer);
-        self.record = one.record;
+        self.tally.ports.set_up(strap, one.answer, &lengths);
+        (self.record, self.handed) = (one.record, one.record);
         Ok(one.answer)
     }
 
     pub fn pack(&mut self, message: &[u8], reply: usize) -> Result<(), String> {
+        let port = self.port;
         let [left, right] = &mut self.sides;
         let call = || format!("packing {message:x?} into {reply}");
-        let one = returned(|| self.first.pack(message, &mut left.reply[..reply]), call)?;
-        let two = returned(
-            || self.second.pack(message, &mut right.reply[..reply]),
-            call,
-        )?;
+        let made = |wheel: &dyn Wheel, side: &mut Buffers| {
+            let buffer = &mut side.ports[port].reply[..reply];
+            returned(|| wheel.pack(message, buffer), call)
+        };
+        let (one, two) = (made(self.first, left)?, made(self.second, right)?);
         agree(one, two, call)?;
-        same_buffers(left, right, call)?;
+        same_buffers(left, right, true, call)?;
         self.tally.packed.add(one.0);
         Ok(())
     }
@@ -229,7 +317,7 @@ impl<'a> Pair<'a> {
         let one = returned(|| self.first.store_list(limit, here, list), call)?;
         let two = returned(|| self.second.store_list(limit, there, list), call)?;
         agree(one, two, call)?;
-        same_buffers(left, right, call)?;
+        same_buffers(left, right, true, call)?;
         self.tally.stored.add(one);
         Ok(one)
     }
@@ -262,11 +350,21 @@ impl<'a> Pair<'a> {
 
 fn lent<'a>(cells: &'a mut Buffers, lengths: &Lengths) -> Lent<'a> {
     let [bootloader, user] = &mut cells.frams;
+    let [zero, one] = &mut cells.ports;
     Lent {
         edac: &mut cells.edac[..lengths.edac],
         bootloader: lent_chip(bootloader, &lengths.frams[BOOTLOADER]),
         user: lent_chip(user, &lengths.frams[USER]),
         diagnostics: &mut cells.diagnostics[..lengths.diagnostics],
+        ports: [
+            lent_lines(zero, &lengths.ports[0]),
+            lent_lines(one, &lengths.ports[1]),
+        ],
+    }
+}
+
+fn lent_lines<'a>(cells: &'a mut Lines, lengths: &LineLengths) -> Port<'a> {
+    Port {
         message: &mut cells.message[..lengths.message],
         reply: &mut cells.reply[..lengths.reply],
     }
@@ -298,8 +396,22 @@ fn agree<T: PartialEq + std::fmt::Debug>(
     ))
 }
 
-fn same_buffers(one: &Buffers, two: &Buffers, call: impl Fn() -> String) -> Result<(), String> {
-    if one == two {
+/// All ten buffers, but for FRAMs that take long where not all are asked for: what a byte does to them it does for good, so the
+/// next FEND shows it.
+fn same_buffers(
+    one: &Buffers,
+    two: &Buffers,
+    all: bool,
+    call: impl Fn() -> String,
+) -> Result<(), String> {
+    let frams = one.frams.iter().zip(&two.frams);
+    let same = one.ports == two.ports
+        && one.diagnostics == two.diagnostics
+        && one.edac == two.edac
+        && frams.fold(true, |same, (one, two)| {
+            same && (!all && one.bytes.len() > LONG || one == two)
+        });
+    if same {
         return Ok(());
     }
     let mut what = call();
@@ -310,8 +422,14 @@ fn same_buffers(one: &Buffers, two: &Buffers, call: impl Fn() -> String) -> Resu
         what += &parted(&format!("sums of {name}"), &one.sums, &two.sums);
     }
     what += &parted("diagnostics", &one.diagnostics, &two.diagnostics);
-    what += &parted("message", &one.message, &two.message);
-    what += &parted("reply", &one.reply, &two.reply);
+    for (port, (one, two)) in one.ports.iter().zip(&two.ports).enumerate() {
+        what += &parted(
+            &format!("message of port {port}"),
+            &one.message,
+            &two.message,
+        );
+        what += &parted(&format!("reply of port {port}"), &one.reply, &two.reply);
+    }
     Err(what)
 }
 

@@ -1,9 +1,11 @@
-//! A session: a unit is set up, with one limit or another, locked or not, and then messages, noise, callers who alter what they
-//! lend or lend it wrongly, and callers who ask about lists of files.
+//! A session: a unit is set up, with one strap and limit or another, locked or not, and then messages, noise, callers who alter
+//! what they lend or lend it wrongly, and callers who ask about lists of files, on either port, with or without bytes of the other
+//! in between.
 
 use super::pair::{ChipLengths, Lengths, Pair, BOOTLOADER, LARGEST, USER};
-use super::{commands, costs, frams, limits, lines, lists};
-use crate::record::{Mode, Place, Record};
+use super::ports::PLACES;
+use super::{commands, costs, frams, limits, lines, lists, ports};
+use crate::record::{Mode, Place, Receiver};
 use crate::second::read_only::ROWS;
 use crate::{Part, Seeded};
 
@@ -43,7 +45,8 @@ pub fn play(pair: &mut Pair, seeded: &mut Seeded) -> Played {
     }
     let bytes = bytes_with(&pair.lengths);
     while pair.offset < bytes {
-        match seeded.below(76) {
+        turn(pair, seeded);
+        match seeded.below(85) {
             0..=28 => sound_run(pair, seeded)?,
             29..=31 => read_only_row(pair, seeded)?,
             32..=35 => repeated(pair, seeded)?,
@@ -61,25 +64,26 @@ pub fn play(pair: &mut Pair, seeded: &mut Seeded) -> Played {
             70 => limits::another(pair, seeded)?,
             71 => limits::wrong(pair, seeded)?,
             72..=73 => frams::about_the_lock(pair, seeded)?,
-            _ => costs::asked(pair, seeded)?,
+            74..=75 => costs::asked(pair, seeded)?,
+            76 => ports::misnamed(pair, seeded)?,
+            _ => ports::crossed(pair, seeded)?,
         }
     }
     Ok(())
 }
 
-/// Any address and any limit that a unit may have, locked or not.
+/// What follows is on one port or the other, with bytes of the other in between or not, and with ports that are sending or not.
+fn turn(pair: &mut Pair, seeded: &mut Seeded) {
+    pair.port = seeded.below(2);
+    pair.aside.leaves(pair.port);
+    pair.aside.woven = seeded.one_in(3);
+    pair.sending = ports::sending(seeded);
+}
+
+/// Any strap and any limit that a unit may have, locked or not.
 fn set_up(pair: &mut Pair, seeded: &mut Seeded) -> Played {
-    let address = match seeded.below(3) {
-        0 => seeded.pick(&[0x01, 0xC1, 0xBF, 0xDA, 0xDC, 0xDD, 0xFF]),
-        1 => seeded.number() as u8,
-        _ => 0x41,
-    };
-    let address = if matches!(address, 0x00 | FEND | FESC) {
-        0x41
-    } else {
-        address
-    };
-    pair.set_up(address, limits::any(seeded).into(), frams::locked(seeded))?;
+    let strap = ports::strap(seeded);
+    pair.set_up(strap, limits::any(seeded).into(), frams::locked(seeded))?;
     Ok(())
 }
 
@@ -89,7 +93,7 @@ fn one_block_too_many(pair: &mut Pair, which: usize) -> Played {
     pair.lengths.frams[which] = ChipLengths::of(LARGEST + 256);
     *pair.recorded(which) += 256;
     pair.byte(FEND)?;
-    pair.set_up(record.address, record.limit.into(), record.locked)?;
+    pair.set_up(record.strap, record.limit.into(), record.locked)?;
     (pair.lengths, pair.record) = (lengths, record);
     Ok(())
 }
@@ -105,10 +109,12 @@ fn another_set_up(pair: &mut Pair, seeded: &mut Seeded) -> Played {
     set_up(pair, seeded)
 }
 
-/// Feeds a run and its FEND, with a first FEND where the receiver needs one.
+/// Feeds a run and its FEND, with a first FEND where the receiver needs one, or stands in another run.
 fn run(pair: &mut Pair, seeded: &mut Seeded, line: &[u8]) -> Played {
-    if pair.record.place == Place::Fresh && !seeded.one_in(8) {
-        if seeded.one_in(2) {
+    let receiver = *pair.receiver();
+    let open = receiver.place != Place::Run || receiver.count > 0;
+    if open && !seeded.one_in(8) {
+        if receiver.place == Place::Fresh && seeded.one_in(2) {
             pair.bytes(&lines::noise(seeded))?;
         }
         pair.byte(FEND)?;
@@ -129,14 +135,14 @@ fn run(pair: &mut Pair, seeded: &mut Seeded, line: &[u8]) -> Played {
 }
 
 fn sound_run(pair: &mut Pair, seeded: &mut Seeded) -> Played {
-    let message = lines::message(seeded, &pair.record);
+    let message = lines::message(seeded, &pair.record, pair.port);
     run(pair, seeded, &lines::escaped(&message))
 }
 
 /// One read-only row written over and beside, and read.
 fn read_only_row(pair: &mut Pair, seeded: &mut Seeded) -> Played {
     for (code, data) in commands::about_a_row(seeded, pair.record.mode) {
-        let message = lines::message_of(seeded, &pair.record, code, &data);
+        let message = lines::message_of(seeded, &pair.record, pair.port, code, &data);
         run(pair, seeded, &lines::escaped(&message))?;
     }
     Ok(())
@@ -144,7 +150,7 @@ fn read_only_row(pair: &mut Pair, seeded: &mut Seeded) -> Played {
 
 /// The same command twice: where it stores, the second time it stores what is there. Its sums may have been altered.
 fn repeated(pair: &mut Pair, seeded: &mut Seeded) -> Played {
-    let message = lines::message(seeded, &pair.record);
+    let message = lines::message(seeded, &pair.record, pair.port);
     run(pair, seeded, &lines::escaped(&message))?;
     if seeded.one_in(2) {
         pair.alter(|lent| {
@@ -156,7 +162,7 @@ fn repeated(pair: &mut Pair, seeded: &mut Seeded) -> Played {
 }
 
 fn spoiled_run(pair: &mut Pair, seeded: &mut Seeded) -> Played {
-    let line = lines::spoiled(seeded, &pair.record);
+    let line = lines::spoiled(seeded, &pair.record, pair.port);
     run(pair, seeded, &line)
 }
 
@@ -166,8 +172,8 @@ fn disturbed(pair: &mut Pair, seeded: &mut Seeded) -> Played {
         0 => wrongly_lent(pair, seeded),
         1 => altered_record(pair, seeded),
         2 => {
-            let (at, byte) = (seeded.below(12), seeded.number() as u8);
-            pair.alter(|lent| lent.message[at] = byte);
+            let (at, byte, port) = (seeded.below(12), seeded.number() as u8, pair.port);
+            pair.alter(|lent| lent.ports[port].message[at] = byte);
             Ok(())
         }
         _ => {
@@ -181,17 +187,19 @@ fn disturbed(pair: &mut Pair, seeded: &mut Seeded) -> Played {
 /// being longer than the limit allows.
 fn planted(pair: &mut Pair, seeded: &mut Seeded) -> Played {
     let message = match seeded.below(8) {
-        0 => limits::long_ping(seeded, &pair.record),
-        _ => lines::message(seeded, &pair.record),
+        0 => limits::long_ping(seeded, &pair.record, pair.port),
+        _ => lines::message(seeded, &pair.record, pair.port),
     };
-    pair.alter(|lent| lent.message[..message.len()].copy_from_slice(&message));
-    pair.record.place = match seeded.below(16) {
+    let port = pair.port;
+    pair.alter(|lent| lent.ports[port].message[..message.len()].copy_from_slice(&message));
+    pair.receiver().place = match seeded.below(16) {
         0 => Place::Fresh,
         1 => Place::Escape,
         2 => Place::Fault,
+        3 => Place::Thrown,
         _ => Place::Run,
     };
-    pair.record.count = match seeded.below(16) {
+    pair.receiver().count = match seeded.below(16) {
         0 => message.len() - 1,
         1 => message.len() + 1,
         _ => message.len(),
@@ -202,10 +210,10 @@ fn planted(pair: &mut Pair, seeded: &mut Seeded) -> Played {
 
 /// The caller writes into what it lends.
 fn altered_memory(pair: &mut Pair, seeded: &mut Seeded) {
-    let (byte, which) = (seeded.number() as u8, seeded.pick(&FRAMS));
+    let (byte, which, port) = (seeded.number() as u8, seeded.pick(&FRAMS), seeded.below(2));
     let lengths = pair.lengths.frams[which];
     match seeded.below(9) {
-        0 => altered_counts(pair, seeded),
+        0 => ports::altered_counts(pair, seeded),
         1 => {
             let at = seeded.below(lengths.sums);
             let sum = seeded.number() as u16;
@@ -225,8 +233,8 @@ fn altered_memory(pair: &mut Pair, seeded: &mut Seeded) {
             };
             pair.alter(|lent| lent.edac[at] = byte);
         }
-        5 => pair.alter(|lent| lent.message.fill(byte)),
-        6 => pair.alter(|lent| lent.reply.fill(byte)),
+        5 => pair.alter(|lent| lent.ports[port].message.fill(byte)),
+        6 => pair.alter(|lent| lent.ports[port].reply.fill(byte)),
         7 => frams::altered(pair, seeded),
         _ => {
             let at = seeded.below(31);
@@ -235,22 +243,40 @@ fn altered_memory(pair: &mut Pair, seeded: &mut Seeded) {
     }
 }
 
-/// The error counts near their highest value, where they stay.
-fn altered_counts(pair: &mut Pair, seeded: &mut Seeded) {
-    for channel in 7..=10 {
-        let count = seeded.pick(&[0, 0xFFFF, 0x7FFF_FFFF, u32::MAX - 1, u32::MAX, u32::MAX]);
-        pair.alter(|lent| lent.diagnostics[channel] = count);
-    }
-}
-
-/// The caller hands in another record: any mode, lock, limit, place and count. A count that is refused is set right afterwards,
-/// since nothing else would come of it.
+/// The caller hands in another record: any mode, lock, limit, and any place and count of one port or both. A count that is refused
+/// is set right afterwards, since nothing else would come of it.
 fn altered_record(pair: &mut Pair, seeded: &mut Seeded) -> Played {
     if seeded.one_in(2) {
         pair.record.limit = limits::any(seeded);
     }
-    let full = usize::from(pair.record.limit) + 6;
-    let count = match seeded.below(8) {
+    pair.record.mode = seeded.pick(&[Mode::Bootloader, Mode::Application, Mode::Application]);
+    pair.record.locked = frams::locked(seeded);
+    for port in seeded.pick(&[&[0][..], &[1], &[0, 1]]) {
+        let count = altered_count(
+            seeded,
+            pair.record.limit,
+            pair.record.receivers[*port].count,
+        );
+        let place = seeded.pick(&PLACES);
+        pair.record.receivers[*port] = Receiver { place, count };
+    }
+    for _ in 0..1 + seeded.below(3) {
+        pair.byte(any_byte(seeded))?;
+    }
+    for receiver in &mut pair.record.receivers {
+        if receiver.count > 1_034 {
+            receiver.count = seeded.below(1_035);
+        }
+    }
+    if seeded.one_in(4) {
+        another_fram(pair, seeded);
+    }
+    Ok(())
+}
+
+fn altered_count(seeded: &mut Seeded, limit: u16, now: usize) -> usize {
+    let full = usize::from(limit) + 6;
+    match seeded.below(8) {
         0 => seeded.below(8),
         1 => full - 3 + seeded.below(6),
         // No unit of this limit counts so far.
@@ -258,26 +284,9 @@ fn altered_record(pair: &mut Pair, seeded: &mut Seeded) -> Played {
         3 => 1_030 + seeded.below(5),
         4 => 1_035 + seeded.below(3),
         5 => seeded.pick(&[1 << 16, (1 << 32) + 4, 1 << 63, usize::MAX]),
-        6 => pair.record.count,
+        6 => now,
         _ => seeded.below(1_035),
-    };
-    pair.record = Record {
-        mode: seeded.pick(&[Mode::Bootloader, Mode::Application, Mode::Application]),
-        locked: frams::locked(seeded),
-        place: seeded.pick(&[Place::Fresh, Place::Run, Place::Escape, Place::Fault]),
-        count,
-        ..pair.record
-    };
-    for _ in 0..1 + seeded.below(3) {
-        pair.byte(any_byte(seeded))?;
     }
-    if pair.record.count > 1_034 {
-        pair.record.count = seeded.below(1_035);
-    }
-    if seeded.one_in(4) {
-        another_fram(pair, seeded);
-    }
-    Ok(())
 }
 
 /// From now on the caller lends an FRAM of another length, and its record says so.
@@ -304,8 +313,9 @@ pub fn any_byte(seeded: &mut Seeded) -> u8 {
 fn wrongly_lent(pair: &mut Pair, seeded: &mut Seeded) -> Played {
     let (lengths, record) = (pair.lengths, pair.record);
     for _ in 0..seeded.pick(&[1, 1, 2, 3]) {
-        match seeded.below(3) {
-            0 => spoil_record(pair, seeded, &lengths),
+        match seeded.below(7) {
+            0 | 1 => spoil_record(pair, seeded, &lengths),
+            2 => pair.misnamed = Some(ports::no_port(seeded)),
             _ => spoil_length(pair, seeded, &lengths),
         }
     }
@@ -313,12 +323,15 @@ fn wrongly_lent(pair: &mut Pair, seeded: &mut Seeded) -> Played {
         pair.byte(any_byte(seeded))?;
     }
     pair.lengths = lengths;
-    pair.record.address = record.address;
+    pair.misnamed = None;
+    pair.record.strap = record.strap;
     pair.record.bootloader_len = record.bootloader_len;
     pair.record.fram_len = record.fram_len;
     pair.record.limit = record.limit;
-    if pair.record.count > 1_034 {
-        pair.record.count = record.count;
+    for (port, receiver) in pair.record.receivers.iter_mut().enumerate() {
+        if receiver.count > 1_034 {
+            receiver.count = record.receivers[port].count;
+        }
     }
     Ok(())
 }
@@ -328,7 +341,7 @@ fn spoil_record(pair: &mut Pair, seeded: &mut Seeded, right: &Lengths) {
     let which = seeded.pick(&FRAMS);
     let fram = right.frams[which].bytes;
     match seeded.below(7) {
-        0 => pair.record.address = seeded.pick(&[0x00, FEND, FESC]),
+        0 => pair.record.strap = ports::no_strap(seeded),
         1 => {
             *pair.recorded(which) =
                 seeded.pick(&[0, fram - 256, fram + 256, fram + (1 << 32), usize::MAX]);
@@ -341,7 +354,13 @@ fn spoil_record(pair: &mut Pair, seeded: &mut Seeded, right: &Lengths) {
                 pair.lengths.frams[which].sums = length / 256;
             }
         }
-        3 => pair.record.count = seeded.pick(&[1_035, 1_036, 1 << 32, usize::MAX]),
+        3 => {
+            let receiver = &mut pair.record.receivers[seeded.below(2)];
+            receiver.count = seeded.pick(&[1_035, 1_036, 1 << 32, usize::MAX]);
+            if seeded.one_in(2) {
+                receiver.place = seeded.pick(&PLACES);
+            }
+        }
         // Each FRAM's length in the other's place.
         4 => {
             pair.record.bootloader_len = right.frams[USER].bytes;
@@ -358,24 +377,25 @@ fn spoil_length(pair: &mut Pair, seeded: &mut Seeded, right: &Lengths) {
     let ChipLengths { bytes, sums } = right.frams[which];
     let lengths = &mut pair.lengths;
     let chip = &mut lengths.frams[which];
+    let lines = &mut lengths.ports[seeded.below(2)];
     match seeded.below(8) {
         0 => lengths.edac = seeded.pick(&[0, 1, 384, 1_535, 1_537, 2_048]),
         1 => chip.bytes = seeded.pick(&[0, bytes - 256, bytes - 1, bytes + 1, bytes + 256]),
         2 | 3 => chip.sums = seeded.pick(&[0, sums - 1, sums + 1, sums + sums.min(256)]),
         4 => lengths.diagnostics = seeded.pick(&[0, 30, 32, 124]),
-        5 => lengths.message = seeded.pick(&[0, 4, 1_032]),
+        5 => lines.message = seeded.pick(&[0, 4, 1_032]),
         // FRAM and sums agree on a block more or less.
         6 => *chip = ChipLengths::of(seeded.pick(&[bytes - 256, bytes + 256])),
-        _ => lengths.reply = seeded.pick(&[0, 1_033, 2_067]),
+        _ => lines.reply = seeded.pick(&[0, 1_033, 2_067]),
     }
 }
 
 /// A set-up that is mostly refused, and bytes with the record that it handed back.
 fn refused_set_up(pair: &mut Pair, seeded: &mut Seeded) -> Played {
     let lengths = pair.lengths;
-    let address = match seeded.below(4) {
-        0 => seeded.pick(&[0x00, FEND, FESC]),
-        _ => 0x41,
+    let strap = match seeded.below(4) {
+        0 => ports::no_strap(seeded),
+        _ => ports::strap(seeded),
     };
     let limit = match seeded.below(3) {
         0 => limits::wide_none(seeded),
@@ -384,7 +404,7 @@ fn refused_set_up(pair: &mut Pair, seeded: &mut Seeded) -> Played {
     for _ in 0..seeded.below(4) {
         spoil_length(pair, seeded, &lengths);
     }
-    pair.set_up(address, limit, frams::locked(seeded))?;
+    pair.set_up(strap, limit, frams::locked(seeded))?;
     if seeded.one_in(2) {
         pair.lengths = lengths;
     }

@@ -4,6 +4,7 @@ use super::costs::Costs;
 use super::frams::Frams;
 use super::limits::Limits;
 use super::rows::Rows;
+use super::traffic::Traffic;
 use std::fmt;
 
 /// How often each number of 01 was answered.
@@ -58,6 +59,8 @@ pub struct Tally {
     pub frams: Frams,
     /// What CRC commands cost.
     pub costs: Costs,
+    /// What befell the two ports.
+    pub ports: Traffic,
 }
 
 impl Tally {
@@ -77,6 +80,7 @@ impl Tally {
             self.rows.missed(),
             self.frams.missed(),
             self.costs.missed(),
+            self.ports.missed(),
         ]
         .concat()
     }
@@ -97,6 +101,7 @@ impl fmt::Display for Tally {
         writeln!(f, "  {}", self.limits)?;
         writeln!(f, "  {}", self.frams)?;
         writeln!(f, "  {}", self.costs)?;
+        writeln!(f, "  {}", self.ports)?;
         write!(f, "  {}", self.rows)
     }
 }

@@ -5,11 +5,10 @@ use super::fram::{self, Chip, Frams};
 use super::{edac, list, lock};
 use crate::record::{Mode, Record};
 
-/// What commands read and write.
+/// What commands read and write, beside the diagnostics.
 pub struct Memory<'a> {
     pub edac: &'a mut [u8],
     pub frams: Frams<'a>,
-    pub diagnostics: &'a mut [u32],
 }
 
 /// Why a command is not done.
@@ -35,12 +34,14 @@ const PING_TEXT: &[u8] = b"WHEEL UNIT NSP 01";
 const APPLICATION: u32 = 0x2005_0000;
 const LOCK: u32 = 0xDEAD_BEEF;
 
-pub fn carry_out(code: u8, data: &[u8], record: &mut Record, memory: Memory) -> Result<Done, No> {
-    let Memory {
-        edac,
-        frams,
-        diagnostics,
-    } = memory;
+pub fn carry_out(
+    code: u8,
+    data: &[u8],
+    record: &mut Record,
+    memory: Memory,
+    diagnostics: &mut [u32],
+) -> Result<Done, No> {
+    let Memory { edac, frams } = memory;
     let limit = record.limit.into();
     // ICD 11.4: READ FILE and all below are for application mode only.
     if code >= 0x07 && record.mode == Mode::Bootloader {

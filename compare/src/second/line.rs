@@ -1,6 +1,6 @@
-//! 01, The line (ICD 9.1): the receiver and packing.
+//! 01, The line (ICD 9.1): the receiver of a port, and packing.
 
-use crate::record::Place;
+use crate::record::{Place, Receiver};
 
 pub const FEND: u8 = 0xC0;
 pub const FESC: u8 = 0xDB;
@@ -18,35 +18,41 @@ pub enum Run {
     Whole(usize),
 }
 
-/// One byte, where a message has at most `longest`: the receiver's new place and count, and the run that it closed.
+/// One byte, where a message has at most `longest`: the receiver after it, and the run that it closed.
 pub fn take(
-    place: Place,
-    count: usize,
+    receiver: Receiver,
     byte: u8,
     longest: usize,
     message: &mut [u8],
-) -> (Place, usize, Option<Run>) {
+) -> (Receiver, Option<Run>) {
+    let Receiver { place, count } = receiver;
     if byte == FEND {
         // Each FEND opens a run, and what follows is read without regard to the run before it.
-        return (Place::Run, 0, closed(place, count));
+        return (at(Place::Run, 0), closed(place, count));
     }
-    let mut stored = |byte| (Place::Run, store(byte, count, longest, message), None);
-    match (place, byte) {
-        // Before the first FEND, and after a fault until the next, no byte means anything.
-        (Place::Fresh | Place::Fault, _) => (place, count, None),
-        (Place::Run, FESC) => (Place::Escape, count, None),
+    let mut stored = |byte| at(Place::Run, store(byte, count, longest, message));
+    let receiver = match (place, byte) {
+        // Before the first FEND, and after a fault or in a run that is thrown away until the next, no byte means anything.
+        (Place::Fresh | Place::Fault | Place::Thrown, _) => receiver,
+        (Place::Run, FESC) => at(Place::Escape, count),
         (Place::Run, _) => stored(byte),
         (Place::Escape, TFEND) => stored(FEND),
         (Place::Escape, TFESC) => stored(FESC),
         // FESC and anything else is a framing fault, which the closing FEND will answer.
-        (Place::Escape, _) => (Place::Fault, count, None),
-    }
+        (Place::Escape, _) => at(Place::Fault, count),
+    };
+    (receiver, None)
 }
 
-/// What a FEND closes. The first one closes nothing; one after FESC is a fault and still closes the run.
+fn at(place: Place, count: usize) -> Receiver {
+    Receiver { place, count }
+}
+
+/// What a FEND closes. The first one closes nothing, and so does the one at the end of a run that was thrown away, which was
+/// counted then; one after FESC is a fault and still closes the run.
 fn closed(place: Place, count: usize) -> Option<Run> {
     match place {
-        Place::Fresh => None,
+        Place::Fresh | Place::Thrown => None,
         Place::Run => Some(Run::Whole(count)),
         Place::Escape | Place::Fault => Some(Run::Faulty),
     }

@@ -1,12 +1,39 @@
 //! A unit on a bench: everything that it is lent, and messages to and from it in the tests' own coding.
 
 use compare::plain;
-use compare::record::{Mode, Place, Record, REFUSED};
+use compare::record::{Mode, Place, Receiver, Record, REFUSED};
 use compare::unit::Proved;
-use compare::wheel::{Fram, Lent, Second, Stepped, Wheel};
+use compare::wheel::{Fram, Heard, Lent, Port, Second, Stepped, Wheel};
 
 pub const FEND: u8 = 0xC0;
+
+/// The strap of every unit unless a test says another, and the address that port 0 then hears and port 1 answers.
+pub const STRAP: u8 = 1;
 pub const ADDRESS: u8 = 0x41;
+
+/// One of a unit's four addresses: as it is where the strap is 0, the port that hears it, and the port of its replies (02, T-01).
+#[derive(Clone, Copy, Debug, PartialEq)]
+pub struct Way {
+    pub address: u8,
+    pub heard: usize,
+    pub answered: usize,
+}
+
+const fn way(address: u8, heard: usize, answered: usize) -> Way {
+    Way {
+        address,
+        heard,
+        answered,
+    }
+}
+
+pub const WAYS: [Way; 4] = [
+    way(0x40, 0, 1),
+    way(0x60, 0, 0),
+    way(0x50, 1, 1),
+    way(0x70, 1, 0),
+];
+
 pub const APPLICATION: [u8; 4] = [0x00, 0x00, 0x05, 0x20];
 pub const LOCK: [u8; 4] = [0xEF, 0xBE, 0xAD, 0xDE];
 
@@ -16,6 +43,14 @@ pub const BOOTLOADER: u32 = 0x2000_0000;
 
 /// The highest limit, which is that of every unit unless a test says another.
 pub const LIMIT: u64 = 1_028;
+
+pub const PLACES: [Place; 5] = [
+    Place::Fresh,
+    Place::Run,
+    Place::Escape,
+    Place::Fault,
+    Place::Thrown,
+];
 
 /// Which program a unit is.
 #[derive(Clone, Copy, Debug, PartialEq)]
@@ -45,8 +80,35 @@ pub struct Bench {
     pub fram: Vec<u8>,
     pub sums: Vec<u16>,
     pub diagnostics: Vec<u32>,
+    pub ports: [Lines; 2],
+    /// By which of its addresses messages go to the unit, and so on which port bytes come.
+    pub way: Way,
+    /// What the unit is told of each port.
+    pub sending: [u8; 2],
+}
+
+/// The buffers of a port.
+#[derive(Clone, Debug, PartialEq)]
+pub struct Lines {
     pub message: Vec<u8>,
     pub reply: Vec<u8>,
+}
+
+impl Lines {
+    fn lent(&mut self) -> Port<'_> {
+        Port {
+            message: &mut self.message,
+            reply: &mut self.reply,
+        }
+    }
+}
+
+/// Buffers of the least length, full of two bytes.
+fn lines(message: u8, reply: u8) -> Lines {
+    Lines {
+        message: vec![message; 1_033],
+        reply: vec![reply; 2_068],
+    }
 }
 
 /// A reply without its framing and CRC.
@@ -132,28 +194,30 @@ impl Bench {
             fram: pattern(fram_len),
             sums: vec![0x5555; fram_len / 256],
             diagnostics: (0..31).map(|i| 0x1111_0000 + i).collect(),
-            message: vec![0xAA; 1_033],
-            reply: vec![0xEE; 2_068],
+            ports: [lines(0xAA, 0xEE), lines(0xBB, 0xDD)],
+            way: WAYS[0],
+            sending: [0, 0],
         }
     }
 
-    pub fn set_up(&mut self, address: u8) -> u8 {
-        self.set_up_with(address, LIMIT)
+    pub fn set_up(&mut self, strap: u8) -> u8 {
+        self.set_up_with(strap, LIMIT)
     }
 
-    pub fn set_up_with(&mut self, address: u8, limit: u64) -> u8 {
-        self.set_up_as(address, limit, 0)
+    pub fn set_up_with(&mut self, strap: u8, limit: u64) -> u8 {
+        self.set_up_as(strap, limit, 0)
     }
 
-    pub fn set_up_as(&mut self, address: u8, limit: u64, locked: u8) -> u8 {
+    pub fn set_up_as(&mut self, strap: u8, limit: u64, locked: u8) -> u8 {
         let wheel = self.program.wheel();
-        let stepped = wheel.set_up(address, limit, locked, self.lent());
-        assert_eq!((stepped.sent, stepped.cost), (0, 0));
+        let stepped = wheel.set_up(strap, limit, locked, self.lent());
+        assert_eq!((stepped.sent, stepped.port, stepped.cost), (0, 0, 0));
         self.record = stepped.record;
         stepped.answer
     }
 
     fn lent(&mut self) -> Lent<'_> {
+        let [zero, one] = &mut self.ports;
         Lent {
             edac: &mut self.edac,
             bootloader: Fram {
@@ -165,9 +229,28 @@ impl Bench {
                 sums: &mut self.sums,
             },
             diagnostics: &mut self.diagnostics,
-            message: &mut self.message,
-            reply: &mut self.reply,
+            ports: [zero.lent(), one.lent()],
         }
+    }
+
+    /// The address of the unit that messages go to.
+    pub fn address(&self) -> u8 {
+        self.way.address + self.record.strap
+    }
+
+    /// The receiver that bytes come to.
+    pub fn receiver(&mut self) -> &mut Receiver {
+        &mut self.record.receivers[self.way.heard]
+    }
+
+    /// Its place and its count.
+    pub fn stands(&self) -> (Place, usize) {
+        self.stands_on(self.way.heard)
+    }
+
+    pub fn stands_on(&self, port: usize) -> (Place, usize) {
+        let Receiver { place, count } = self.record.receivers[port];
+        (place, count)
     }
 
     /// A unit that was set up, in bootloader mode, whose receiver is fresh.
@@ -178,7 +261,7 @@ impl Bench {
     /// The same of either program and with any limit.
     pub fn fresh_of(program: Program, limit: u64) -> Bench {
         let mut bench = Bench::bare_of(program, 1_024);
-        assert_eq!(bench.set_up_with(ADDRESS, limit), 0);
+        assert_eq!(bench.set_up_with(STRAP, limit), 0);
         bench
     }
 
@@ -202,9 +285,21 @@ impl Bench {
     }
 
     pub fn step(&mut self, byte: u8) -> Stepped {
-        let (wheel, record) = (self.program.wheel(), self.record);
-        let stepped = wheel.step(record, byte, self.lent());
+        self.step_on(self.way.heard as u8, byte)
+    }
+
+    /// A byte on any port. Where nothing is sent, its port is 0.
+    pub fn step_on(&mut self, port: u8, byte: u8) -> Stepped {
+        let (wheel, record, sending) = (self.program.wheel(), self.record, self.sending);
+        let heard = Heard {
+            port,
+            byte,
+            sending,
+        };
+        let stepped = wheel.step(record, heard, self.lent());
         self.record = stepped.record;
+        assert_eq!(stepped.sent > 0, matches!(stepped.answer, 1 | 3));
+        assert!(stepped.sent > 0 && stepped.port <= 1 || stepped.port == 0);
         stepped
     }
 
@@ -231,12 +326,18 @@ impl Bench {
     /// The same: the last answer and what was sent.
     pub fn run(&mut self, bytes: &[u8]) -> (u8, Vec<u8>) {
         let stepped = self.close(bytes);
-        (stepped.answer, self.reply[..stepped.sent].to_vec())
+        (stepped.answer, self.sent(&stepped))
+    }
+
+    /// What is to be sent after a call.
+    pub fn sent(&self, stepped: &Stepped) -> Vec<u8> {
+        let reply = &self.ports[usize::from(stepped.port)].reply;
+        reply[..stepped.sent].to_vec()
     }
 
     /// Sends a message to this unit. Nothing but a CRC command that is done may cost anything (02, T-13).
     pub fn ask(&mut self, source: u8, control: u8, data: &[u8]) -> Stepped {
-        let message = message(self.record.address, source, control, data);
+        let message = message(self.address(), source, control, data);
         let stepped = self.close(&escaped(&message));
         let crc_done = control & 0x1F == 0x06 && matches!(stepped.answer, 1 | 2);
         assert_eq!(stepped.cost > 0, crc_done);
@@ -245,18 +346,26 @@ impl Bench {
 
     /// Sends a message of this unit and checks everything about the reply that holds for all.
     pub fn send(&mut self, control: u8, data: &[u8]) -> (u8, Option<Reply>) {
-        let (before, source) = (self.reply.clone(), 0x11);
-        let Stepped { answer, sent, .. } = self.ask(source, control, data);
-        let sent = self.reply[..sent].to_vec();
-        assert_eq!((self.record.place, self.record.count), (Place::Run, 0));
-        assert_eq!(self.reply[sent.len()..], before[sent.len()..]);
+        let (before, source) = (self.ports.clone(), 0x11);
+        let stepped = self.ask(source, control, data);
+        let (answer, sent) = (stepped.answer, self.sent(&stepped));
+        assert_eq!(self.stands(), (Place::Run, 0));
+        for (port, lines) in self.ports.iter().enumerate() {
+            let written = if port == self.way.answered {
+                sent.len()
+            } else {
+                0
+            };
+            assert_eq!(lines.reply[written..], before[port].reply[written..]);
+        }
         if sent.is_empty() {
             return (answer, None);
         }
+        assert_eq!(usize::from(stepped.port), self.way.answered);
         let reply = unpacked(&sent);
         let (body, sum) = reply.split_at(reply.len() - 2);
         assert_eq!(sum, crc(body).to_le_bytes());
-        assert_eq!((body[0], body[1]), (source, self.record.address));
+        assert_eq!((body[0], body[1]), (source, self.address()));
         let reply = Reply {
             destination: body[0],
             source: body[1],
@@ -291,7 +400,13 @@ impl Bench {
         assert_eq!(self.send(0x80 | code, data), (10, None));
         assert_eq!(self.send(code, data), (10, None));
         self.same_memory(&before);
-        assert_eq!(self.reply, before.reply);
+        assert_eq!(self.replies(), before.replies());
+    }
+
+    /// Both reply buffers.
+    pub fn replies(&self) -> [&[u8]; 2] {
+        let [zero, one] = &self.ports;
+        [&zero.reply, &one.reply]
     }
 
     /// EDAC, both FRAMs, their sums, diagnostics, mode and lock are as before.

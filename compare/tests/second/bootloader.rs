@@ -1,7 +1,7 @@
 //! 02, T-07: bootloader FRAM, its lock, and the border to user FRAM. Whatever is tried here is tried on the second program and
 //! on the proved unit.
 use crate::bench::*;
-use compare::record::{Mode, Place, Record, REFUSED};
+use compare::record::{Mode, Record, FRESH, REFUSED};
 
 const STATUS: usize = 0x06;
 
@@ -18,7 +18,7 @@ fn on_both(tried: impl Fn(Bench)) {
 /// A unit with so much of each FRAM.
 pub fn open(program: Program, bootloader_len: usize, fram_len: usize) -> Bench {
     let mut unit = Bench::bare_with(program, bootloader_len, fram_len);
-    assert_eq!(unit.set_up(ADDRESS), 0);
+    assert_eq!(unit.set_up(STRAP), 0);
     assert_eq!(unit.feed(&[FEND]), [0]);
     unit
 }
@@ -27,11 +27,10 @@ fn sums(fram: &[u8]) -> Vec<u16> {
     fram.chunks(256).map(crc).collect()
 }
 
-/// The unit as it was, but for what a command leaves in the message and the reply buffer.
+/// The unit as it was, but for what a command leaves in the buffers of the ports.
 fn left(before: &Bench, after: &Bench) -> Bench {
     Bench {
-        message: after.message.clone(),
-        reply: after.reply.clone(),
+        ports: after.ports.clone(),
         ..before.clone()
     }
 }
@@ -45,19 +44,18 @@ fn set_up_keeps_the_lock_and_shows_it() {
                 unit.diagnostics[STATUS] = status;
                 let mut due = unit.clone();
                 due.record = Record {
-                    address: ADDRESS,
+                    strap: STRAP,
                     mode: Mode::Bootloader,
                     bootloader_len: 512,
                     fram_len: 256,
                     locked: locked.min(1),
                     limit: 300,
-                    place: Place::Fresh,
-                    count: 0,
+                    receivers: [FRESH; 2],
                 };
                 due.bootloader_sums = sums(&due.bootloader);
                 due.sums = sums(&due.fram);
                 due.diagnostics[STATUS] = status & 0xFFFF_FF00 | low;
-                assert_eq!(unit.set_up_as(ADDRESS, 300, locked), 0);
+                assert_eq!(unit.set_up_as(STRAP, 300, locked), 0);
                 assert_eq!(unit, due);
             }
         }
@@ -68,22 +66,25 @@ fn set_up_keeps_the_lock_and_shows_it() {
 fn a_refused_set_up_shows_nothing() {
     for program in PROGRAMS {
         for locked in [0, 1, 0xFF] {
-            let wrong = |address, limit, change: fn(&mut Bench)| {
+            let wrong = |strap, limit, change: fn(&mut Bench)| {
                 let mut unit = Bench::bare_of(program, 512);
                 change(&mut unit);
                 let before = unit.clone();
-                let answer = unit.set_up_as(address, limit, locked);
+                let answer = unit.set_up_as(strap, limit, locked);
                 assert_eq!(unit.record, REFUSED);
                 assert_eq!(unit, before);
                 answer
             };
-            assert_eq!(wrong(0xC0, 1_028, |_| ()), 20);
-            assert_eq!(wrong(ADDRESS, 1_028, |u| u.edac.truncate(1_535)), 21);
-            assert_eq!(wrong(ADDRESS, 1_028, |u| u.bootloader.push(0)), 22);
-            assert_eq!(wrong(ADDRESS, 1_028, |u| u.bootloader_sums.push(0)), 23);
-            assert_eq!(wrong(ADDRESS, 1_028, |u| u.diagnostics.push(0)), 24);
-            assert_eq!(wrong(ADDRESS, 1_028, |u| u.reply.truncate(2_067)), 25);
-            assert_eq!(wrong(ADDRESS, 259, |_| ()), 29);
+            assert_eq!(wrong(8, 1_028, |_| ()), 20);
+            assert_eq!(wrong(STRAP, 1_028, |u| u.edac.truncate(1_535)), 21);
+            assert_eq!(wrong(STRAP, 1_028, |u| u.bootloader.push(0)), 22);
+            assert_eq!(wrong(STRAP, 1_028, |u| u.bootloader_sums.push(0)), 23);
+            assert_eq!(wrong(STRAP, 1_028, |u| u.diagnostics.push(0)), 24);
+            assert_eq!(
+                wrong(STRAP, 1_028, |u| u.ports[1].reply.truncate(2_067)),
+                25
+            );
+            assert_eq!(wrong(STRAP, 259, |_| ()), 29);
         }
     }
 }
@@ -92,7 +93,7 @@ fn a_refused_set_up_shows_nothing() {
 fn a_later_set_up_is_told_anew() {
     on_both(|mut unit| {
         unit.done(0x01, &LOCK);
-        assert_eq!(unit.set_up(ADDRESS), 0);
+        assert_eq!(unit.set_up(STRAP), 0);
         assert_eq!(
             (unit.record.locked, unit.diagnostics[STATUS]),
             (0, 0x1111_0040)
@@ -446,7 +447,7 @@ fn lengths_of_bootloader_fram() {
             (262_400, 22),
         ] {
             let mut unit = Bench::bare_with(program, length, 256);
-            assert_eq!(unit.set_up(ADDRESS), due, "{length}");
+            assert_eq!(unit.set_up(STRAP), due, "{length}");
             // A record and a slice that agree on a wrong length are refused too.
             let mut unit = open(program, 256, 256);
             unit.bootloader = vec![0; length];
@@ -483,7 +484,7 @@ fn refused(program: Program, changes: &[fn(&mut Bench)]) -> u8 {
         change(&mut bare);
     }
     let before = (unit.clone(), bare.clone());
-    let answers = (unit.byte(FEND).0, bare.set_up(ADDRESS));
+    let answers = (unit.byte(FEND).0, bare.set_up(STRAP));
     assert_eq!((&unit, &bare), (&before.0, &before.1));
     assert_eq!(answers.0, answers.1);
     answers.0

@@ -80,7 +80,7 @@ fn init() {
 #[test]
 fn init_needs_no_fitted_memory_at_its_address() {
     let mut unit = Bench::bare(256);
-    unit.set_up(ADDRESS);
+    unit.set_up(STRAP);
     unit.feed(&[FEND]);
     assert_eq!(unit.done(0x01, &APPLICATION), APPLICATION);
 }
@@ -169,7 +169,7 @@ fn set_up_and_init_clear_no_diagnostic() {
     let mut unit = Bench::open();
     let before = unit.diagnostics.clone();
     unit.done(0x01, &[]);
-    assert_eq!(unit.set_up(ADDRESS), 0);
+    assert_eq!(unit.set_up(STRAP), 0);
     assert_eq!(unit.diagnostics, before);
 }
 

@@ -281,17 +281,17 @@ fn the_cost_is_that_of_its_own_byte() {
         };
         after(|_| (), FEND, 0);
         after(|_| (), 0x41, 0);
-        after(|unit| unit.record.count = 4, FEND, 6);
+        after(|unit| unit.receiver().count = 4, FEND, 6);
         // The message still stands in the buffer, one byte too long for its CRC.
-        after(|unit| unit.record.count = 14, FEND, 8);
-        after(|unit| unit.record.count = 1_034, FEND, 7);
-        after(|unit| unit.record.address = 0x42, FEND, 0);
-        after(|unit| unit.record.address = 0, FEND, 20);
+        after(|unit| unit.receiver().count = 14, FEND, 8);
+        after(|unit| unit.receiver().count = 1_034, FEND, 7);
+        after(|unit| unit.record.strap = 2, FEND, 0);
+        after(|unit| unit.record.strap = 8, FEND, 20);
         after(|unit| unit.edac.truncate(1_535), FEND, 21);
         after(|unit| unit.record.limit = 0, FEND, 29);
         // For another unit.
         let (mut unit, mut other) = (unit.clone(), crc.clone());
-        unit.record.address = 0x42;
+        unit.record.strap = 2;
         let stepped = unit.close(&other);
         assert_eq!((stepped.answer, stepped.cost), (9, 0));
         // With a bit off.
@@ -306,7 +306,7 @@ fn set_up_costs_nothing() {
     on_both(1_024, |mut unit| {
         // The bench looks at the cost of every set-up.
         assert_eq!(cost(&mut unit, &bytes(FIRST, 1, 1_022)), 512);
-        assert_eq!(unit.set_up(ADDRESS), 0);
-        assert_eq!(unit.set_up(0xC0), 20);
+        assert_eq!(unit.set_up(STRAP), 0);
+        assert_eq!(unit.set_up(8), 20);
     });
 }

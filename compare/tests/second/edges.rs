@@ -133,7 +133,7 @@ fn ends_of_the_fram() {
 #[test]
 fn the_largest_fram() {
     let mut unit = Bench::bare(262_144);
-    assert_eq!(unit.set_up(ADDRESS), 0);
+    assert_eq!(unit.set_up(STRAP), 0);
     unit.feed(&[FEND]);
     let last = FIRST + 262_143;
     let shown = unit.done(0x06, &span(FIRST, last));
@@ -173,11 +173,11 @@ fn what_is_packed_is_received() {
     for length in [5, 6, 300, 1_032, 1_033] {
         let mut unit = Bench::open();
         let message: Vec<u8> = pattern(length).iter().map(|b| 0xB0 | b).collect();
-        let (answer, sent) = compare::second::pack(&message, &mut unit.reply);
+        let (answer, sent) = compare::second::pack(&message, &mut unit.ports[1].reply);
         assert_eq!(answer, 0);
-        let line = unit.reply[..sent - 1].to_vec();
+        let line = unit.ports[1].reply[..sent - 1].to_vec();
         unit.feed(&line);
-        assert_eq!(unit.record.count, length);
-        assert_eq!(unit.message[..length], message);
+        assert_eq!(unit.receiver().count, length);
+        assert_eq!(unit.ports[0].message[..length], message);
     }
 }

@@ -1,6 +1,6 @@
 //! P1 to P12.
 use crate::bench::*;
-use compare::record::{Mode, Place};
+use compare::record::{Mode, Place, FRESH};
 use compare::{second, Part};
 
 #[test]
@@ -20,9 +20,12 @@ fn p6_ping_to_a_fresh_unit() {
         unit.feed(&[0xC0, 0x41, 0x11, 0x80, 0xD8, 0x6D]),
         [0, 0, 0, 0, 0, 0]
     );
-    let (answer, sent) = unit.run(&[]);
-    assert_eq!(answer, 1);
-    let reply = unpacked(&sent);
+    // It comes on port 0, and by its address the reply leaves on port 1 (02, T-01).
+    let before = unit.clone();
+    let stepped = unit.close(&[]);
+    assert_eq!((stepped.answer, stepped.port), (1, 1));
+    assert_eq!(unit.ports[0], before.ports[0]);
+    let reply = unpacked(&unit.ports[1].reply[..stepped.sent]);
     assert_eq!(reply[..3], [0x11, 0x41, 0xA0]);
     assert_eq!(&reply[3..20], b"WHEEL UNIT NSP 01");
     assert_eq!(reply[20..], crc(&reply[..20]).to_le_bytes());
@@ -32,10 +35,10 @@ fn p6_ping_to_a_fresh_unit() {
 fn p7_unpacking() {
     let mut unit = Bench::open();
     unit.feed(&[0xDB, 0xDC, 0xDB, 0xDD]);
-    assert_eq!(unit.message[..2], [0xC0, 0xDB]);
-    assert_eq!((unit.record.place, unit.record.count), (Place::Run, 2));
+    assert_eq!(unit.ports[0].message[..2], [0xC0, 0xDB]);
+    assert_eq!(unit.stands(), (Place::Run, 2));
     assert_eq!(unit.feed(&[0xDB, 0x00]), [0, 0]);
-    assert_eq!((unit.record.place, unit.record.count), (Place::Fault, 2));
+    assert_eq!(unit.stands(), (Place::Fault, 2));
     assert_eq!(unit.run(&[]), (5, vec![]));
 }
 
@@ -93,11 +96,11 @@ fn p12_a_torn_list_stores_nothing() {
 fn set_up_computes_all_sums_and_shows_the_lock_and_changes_nothing_else() {
     let mut unit = Bench::bare(1_024);
     let before = unit.clone();
-    assert_eq!(unit.set_up(ADDRESS), 0);
-    assert_eq!(unit.record.address, ADDRESS);
+    assert_eq!(unit.set_up(STRAP), 0);
+    assert_eq!(unit.record.strap, STRAP);
     assert_eq!(unit.record.mode, Mode::Bootloader);
     assert_eq!(unit.record.fram_len, 1_024);
-    assert_eq!((unit.record.place, unit.record.count), (Place::Fresh, 0));
+    assert_eq!(unit.record.receivers, [FRESH; 2]);
     let sums = |fram: &[u8]| fram.chunks(256).map(crc).collect();
     let due = Bench {
         record: unit.record,

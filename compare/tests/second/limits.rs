@@ -1,6 +1,6 @@
 //! 02, T-06: units of limits from 260 to 1,028. Whatever is tried here is tried on the second program and on the proved unit.
 use crate::bench::*;
-use compare::record::{Mode, Place, Record, REFUSED};
+use compare::record::{Mode, Place, Record, FRESH, REFUSED};
 
 /// The ends, and one between that is a multiple of five and of six.
 const LIMITS: [u64; 3] = [260, 300, 1_028];
@@ -21,8 +21,6 @@ const NO_LIMITS: [u64; 12] = [
     u64::MAX,
 ];
 
-const PLACES: [Place; 4] = [Place::Fresh, Place::Run, Place::Escape, Place::Fault];
-
 /// Something to try on units of both programs, in application mode and after a FEND.
 fn on_both(limit: u64, tried: impl Fn(Bench)) {
     for program in PROGRAMS {
@@ -42,16 +40,15 @@ fn set_up_keeps_the_limit() {
     for program in PROGRAMS {
         for limit in 260..=1_028 {
             let mut unit = Bench::bare_of(program, 256);
-            assert_eq!(unit.set_up_with(ADDRESS, limit), 0);
+            assert_eq!(unit.set_up_with(STRAP, limit), 0);
             let due = Record {
-                address: ADDRESS,
+                strap: STRAP,
                 mode: Mode::Bootloader,
                 bootloader_len: 768,
                 fram_len: 256,
                 locked: 0,
                 limit: limit as u16,
-                place: Place::Fresh,
-                count: 0,
+                receivers: [FRESH; 2],
             };
             assert_eq!(unit.record, due);
             assert_eq!(unit.sums, [crc(&unit.fram)]);
@@ -65,9 +62,9 @@ fn set_up_refuses_every_other_limit() {
         for limit in NO_LIMITS.into_iter().chain(0..260).chain(1_029..1_300) {
             let mut unit = Bench::bare_of(program, 256);
             let before = unit.clone();
-            assert_eq!(unit.set_up_with(ADDRESS, limit), 29, "{limit}");
+            assert_eq!(unit.set_up_with(STRAP, limit), 29, "{limit}");
             assert_eq!(unit.record, REFUSED);
-            assert_eq!((unit.record.address, unit.record.limit), (0, 0));
+            assert_eq!((unit.record.strap, unit.record.limit), (8, 0));
             assert_eq!(unit, before);
             // Nothing comes of that record later.
             assert_eq!(unit.byte(FEND), (20, 0));
@@ -78,24 +75,24 @@ fn set_up_refuses_every_other_limit() {
 #[test]
 fn at_set_up_the_limit_is_judged_last() {
     for (program, limit) in PROGRAMS.into_iter().flat_map(|p| NO_LIMITS.map(|n| (p, n))) {
-        let wrong = |address, change: fn(&mut Bench)| {
+        let wrong = |strap, change: fn(&mut Bench)| {
             let mut unit = Bench::bare_of(program, 512);
             change(&mut unit);
             let before = unit.clone();
-            let answer = unit.set_up_with(address, limit);
+            let answer = unit.set_up_with(strap, limit);
             assert_eq!(unit, before);
             answer
         };
-        for address in [0x00, 0xC0, 0xDB] {
-            assert_eq!(wrong(address, |_| ()), 20);
+        for strap in [8, 9, 0x41, 0xFF] {
+            assert_eq!(wrong(strap, |_| ()), 20);
         }
-        assert_eq!(wrong(ADDRESS, |u| u.edac.truncate(1_535)), 21);
-        assert_eq!(wrong(ADDRESS, |u| u.fram.push(0)), 22);
-        assert_eq!(wrong(ADDRESS, |u| u.sums.push(0)), 23);
-        assert_eq!(wrong(ADDRESS, |u| u.diagnostics.truncate(30)), 24);
-        assert_eq!(wrong(ADDRESS, |u| u.message.truncate(1_032)), 25);
-        assert_eq!(wrong(ADDRESS, |u| u.reply.truncate(2_067)), 25);
-        assert_eq!(wrong(ADDRESS, |_| ()), 29);
+        assert_eq!(wrong(STRAP, |u| u.edac.truncate(1_535)), 21);
+        assert_eq!(wrong(STRAP, |u| u.fram.push(0)), 22);
+        assert_eq!(wrong(STRAP, |u| u.sums.push(0)), 23);
+        assert_eq!(wrong(STRAP, |u| u.diagnostics.truncate(30)), 24);
+        assert_eq!(wrong(STRAP, |u| u.ports[0].message.truncate(1_032)), 25);
+        assert_eq!(wrong(STRAP, |u| u.ports[1].reply.truncate(2_067)), 25);
+        assert_eq!(wrong(STRAP, |_| ()), 29);
     }
 }
 
@@ -105,9 +102,9 @@ fn the_buffers_keep_their_sizes() {
     for program in PROGRAMS {
         let short = |message: usize, reply: usize| {
             let mut unit = Bench::bare_of(program, 256);
-            unit.message.truncate(message);
-            unit.reply.truncate(reply);
-            unit.set_up_with(ADDRESS, 260)
+            unit.ports[0].message.truncate(message);
+            unit.ports[1].reply.truncate(reply);
+            unit.set_up_with(STRAP, 260)
         };
         assert_eq!(short(265, 2_068), 25);
         assert_eq!(short(1_033, 532), 25);
@@ -129,8 +126,8 @@ fn a_record_with_another_limit_is_refused_in_every_place() {
                 for count in [0, 5, 265, 1_034] {
                     let mut unit = Bench::fresh_of(program, LIMIT);
                     unit.record.limit = limit;
-                    unit.record.place = place;
-                    unit.record.count = count;
+                    unit.receiver().place = place;
+                    unit.receiver().count = count;
                     let before = unit.clone();
                     for byte in [FEND, 0xDB, 0xDC, 0x41] {
                         assert_eq!(unit.byte(byte), (29, 0), "{limit} {place:?}");
@@ -157,16 +154,16 @@ fn in_a_record_the_limit_is_judged_last() {
             assert_eq!(unit, before);
             answer
         };
-        assert_eq!(wrong(|u| u.record.address = 0xDB), 20);
+        assert_eq!(wrong(|u| u.record.strap = 8), 20);
         assert_eq!(wrong(|u| u.edac.push(0)), 21);
         assert_eq!(wrong(|u| u.record.fram_len = 512), 22);
         assert_eq!(wrong(|u| u.sums.truncate(3)), 23);
         assert_eq!(wrong(|u| u.diagnostics.push(0)), 24);
-        assert_eq!(wrong(|u| u.message.truncate(1_032)), 25);
-        assert_eq!(wrong(|u| u.reply.truncate(2_067)), 25);
-        assert_eq!(wrong(|u| u.record.count = 1_035), 26);
-        assert_eq!(wrong(|u| u.record.count = usize::MAX), 26);
-        assert_eq!(wrong(|u| u.record.count = 1_034), 29);
+        assert_eq!(wrong(|u| u.ports[0].message.truncate(1_032)), 25);
+        assert_eq!(wrong(|u| u.ports[1].reply.truncate(2_067)), 25);
+        assert_eq!(wrong(|u| u.receiver().count = 1_035), 26);
+        assert_eq!(wrong(|u| u.receiver().count = usize::MAX), 26);
+        assert_eq!(wrong(|u| u.receiver().count = 1_034), 29);
         assert_eq!(wrong(|_| ()), 29);
     }
 }
@@ -208,18 +205,19 @@ fn every_limit_takes_its_longest_message_and_no_longer_one() {
 fn only_the_limit_and_5_bytes_are_stored_and_the_limit_and_6_counted() {
     for (limit, stored) in [(260, 265), (300, 305), (1_028, 1_033)] {
         on_both(limit, |mut unit| {
-            unit.message = vec![0xAA; 3_000];
+            unit.ports[0].message = vec![0xAA; 3_000];
             unit.feed(&vec![0x55; stored]);
-            assert_eq!(unit.record.count, stored);
+            assert_eq!(unit.receiver().count, stored);
             unit.feed(&[0x55]);
-            assert_eq!(unit.record.count, stored + 1);
+            assert_eq!(unit.receiver().count, stored + 1);
             unit.feed(&vec![0x55; 2_000]);
-            assert_eq!(
-                (unit.record.place, unit.record.count),
-                (Place::Run, stored + 1)
-            );
-            assert!(unit.message[..stored].iter().all(|&byte| byte == 0x55));
-            assert!(unit.message[stored..].iter().all(|&byte| byte == 0xAA));
+            assert_eq!(unit.stands(), (Place::Run, stored + 1));
+            assert!(unit.ports[0].message[..stored]
+                .iter()
+                .all(|&byte| byte == 0x55));
+            assert!(unit.ports[0].message[stored..]
+                .iter()
+                .all(|&byte| byte == 0xAA));
             assert_eq!(unit.run(&[]).0, 7);
         });
     }
@@ -233,15 +231,15 @@ fn escapes_about_the_limit() {
             unit.feed(&vec![0x55; stored - 1]);
             unit.feed(&[0xDB, 0xDC]);
             assert_eq!(
-                (unit.record.count, unit.message[stored - 1]),
+                (unit.receiver().count, unit.ports[0].message[stored - 1]),
                 (stored, 0xC0)
             );
             unit.feed(&[0xDB, 0xDD]);
+            assert_eq!(unit.stands(), (Place::Run, stored + 1));
             assert_eq!(
-                (unit.record.place, unit.record.count),
-                (Place::Run, stored + 1)
+                unit.ports[0].message.get(stored).copied().unwrap_or(0xAA),
+                0xAA
             );
-            assert_eq!(unit.message.get(stored).copied().unwrap_or(0xAA), 0xAA);
             assert_eq!(unit.run(&[]).0, 7);
             // A fault after it is framing too.
             let long = vec![0x55; stored + 1];
@@ -268,12 +266,14 @@ fn a_lent_count_above_the_limit_and_6_stays() {
                     (Place::Escape, 0xDD, Place::Run),
                     (Place::Escape, 0x55, Place::Fault),
                     (Place::Fault, 0x55, Place::Fault),
+                    (Place::Thrown, 0x55, Place::Thrown),
+                    (Place::Thrown, 0xDB, Place::Thrown),
                 ] {
                     let mut unit = unit.clone();
-                    unit.record.place = place;
-                    unit.record.count = count;
+                    unit.receiver().place = place;
+                    unit.receiver().count = count;
                     let mut due = unit.clone();
-                    due.record.place = after;
+                    due.receiver().place = after;
                     assert_eq!(unit.byte(byte), (0, 0));
                     assert_eq!(unit, due, "{place:?} {byte:#04x}");
                 }
@@ -284,7 +284,7 @@ fn a_lent_count_above_the_limit_and_6_stays() {
 
 #[test]
 fn a_lent_count_above_the_limit_and_5_is_oversize() {
-    // A fault or a FESC before it is framing, and a fresh receiver has no run.
+    // A fault or a FESC before it is framing, a fresh receiver has no run, and one that is thrown away is nothing more.
     for (limit, counts) in [
         (260, [266, 267, 700, 1_034]),
         (300, [306, 307, 1_033, 1_034]),
@@ -296,12 +296,13 @@ fn a_lent_count_above_the_limit_and_5_is_oversize() {
                     (Place::Run, 7),
                     (Place::Escape, 5),
                     (Place::Fault, 5),
+                    (Place::Thrown, 0),
                 ] {
                     let mut unit = unit.clone();
-                    unit.record.place = place;
-                    unit.record.count = count;
+                    unit.receiver().place = place;
+                    unit.receiver().count = count;
                     let mut due = unit.clone();
-                    (due.record.place, due.record.count) = (Place::Run, 0);
+                    (due.receiver().place, due.receiver().count) = (Place::Run, 0);
                     if answer != 0 {
                         due.diagnostics[usize::from(answer) + 2] += 1;
                     }
@@ -328,8 +329,8 @@ fn a_sound_message_that_was_not_received_is_as_long_as_the_limit_says() {
     ] {
         on_both(limit, |mut unit| {
             let sound = message(ADDRESS, 0x11, 0x80, &pattern(length - 5));
-            unit.message[..length].copy_from_slice(&sound);
-            unit.record.count = length;
+            unit.ports[0].message[..length].copy_from_slice(&sound);
+            unit.receiver().count = length;
             assert_eq!(unit.byte(FEND).0, answer, "{limit} {length}");
         });
     }
@@ -344,7 +345,7 @@ fn the_caller_may_hand_in_another_limit() {
         for (close, answer) in [(1_028, 1), (595, 1), (594, 7), (300, 7), (260, 7)] {
             let mut unit = Bench::application_of(program, 1_028);
             unit.feed(&escaped(&sound));
-            assert_eq!(unit.record.count, 600);
+            assert_eq!(unit.receiver().count, 600);
             unit.record.limit = close;
             assert_eq!(unit.byte(FEND).0, answer, "{close}");
             assert_eq!(unit.record.limit, close);
@@ -352,11 +353,14 @@ fn the_caller_may_hand_in_another_limit() {
         // Under 260 bytes are stored up to the 265th; the 266th and those after it are lost.
         let mut unit = Bench::application_of(program, 260);
         unit.feed(&[0x55; 400]);
-        assert_eq!(unit.record.count, 266);
+        assert_eq!(unit.receiver().count, 266);
         unit.record.limit = 1_028;
         unit.feed(&[0x66, 0x77]);
-        assert_eq!(unit.record.count, 268);
-        assert_eq!(unit.message[264..269], [0x55, 0xAA, 0x66, 0x77, 0xAA]);
+        assert_eq!(unit.receiver().count, 268);
+        assert_eq!(
+            unit.ports[0].message[264..269],
+            [0x55, 0xAA, 0x66, 0x77, 0xAA]
+        );
         assert_eq!(unit.run(&[]).0, 8);
     }
 }

@@ -1,12 +1,12 @@
 //! The line: the receiver in every place, the tests at the close in order, and the counts.
 use crate::bench::*;
-use compare::record::{Mode, Place, Record};
+use compare::record::{Mode, Place, Receiver};
 
 /// The unit's place and count after some bytes from the start of a run.
 fn after(bytes: &[u8]) -> (Place, usize) {
     let mut unit = Bench::open();
     unit.feed(bytes);
-    (unit.record.place, unit.record.count)
+    unit.stands()
 }
 
 #[test]
@@ -19,18 +19,18 @@ fn nothing_means_anything_before_the_first_fend() {
     }
     // FESC and FEND there just opens a run.
     assert_eq!(unit.feed(&[0xDB, FEND]), [0, 0]);
-    assert_eq!((unit.record.place, unit.record.count), (Place::Run, 0));
+    assert_eq!(unit.stands(), (Place::Run, 0));
     assert_eq!(unit.diagnostics, before.diagnostics);
 }
 
 #[test]
 fn a_fresh_receiver_keeps_a_count_that_it_is_handed_until_the_fend() {
     let mut unit = Bench::fresh();
-    unit.record.count = 700;
+    unit.receiver().count = 700;
     assert_eq!(unit.byte(0x41), (0, 0));
-    assert_eq!((unit.record.place, unit.record.count), (Place::Fresh, 700));
+    assert_eq!(unit.stands(), (Place::Fresh, 700));
     assert_eq!(unit.byte(FEND), (0, 0));
-    assert_eq!((unit.record.place, unit.record.count), (Place::Run, 0));
+    assert_eq!(unit.stands(), (Place::Run, 0));
 }
 
 #[test]
@@ -54,9 +54,9 @@ fn every_byte_after_fesc() {
         assert_eq!(unit.byte(0xDB), (0, 0));
         let (answer, _) = unit.byte(byte);
         match byte {
-            0xC0 => assert_eq!((answer, unit.record.place), (5, Place::Run)),
-            0xDC | 0xDD => assert_eq!((answer, unit.record.place), (0, Place::Run)),
-            _ => assert_eq!((answer, unit.record.place), (0, Place::Fault)),
+            0xC0 => assert_eq!((answer, unit.receiver().place), (5, Place::Run)),
+            0xDC | 0xDD => assert_eq!((answer, unit.receiver().place), (0, Place::Run)),
+            _ => assert_eq!((answer, unit.receiver().place), (0, Place::Fault)),
         }
         let moved = u32::from(byte == FEND);
         assert_eq!(unit.diagnostics[7], before.diagnostics[7] + moved);
@@ -89,30 +89,31 @@ fn a_fault_after_the_1034th_byte_is_framing() {
     // 1,033 bytes and a fault: the count stops at the fault.
     let mut unit = Bench::open();
     unit.feed(&[&long[..1_033], &[0xDB, 0x00, 0x55, 0x55]].concat());
-    assert_eq!(
-        (unit.record.place, unit.record.count),
-        (Place::Fault, 1_033)
-    );
+    assert_eq!(unit.stands(), (Place::Fault, 1_033));
 }
 
 #[test]
 fn only_1033_bytes_are_ever_stored() {
     let mut unit = Bench::open();
-    unit.message = vec![0xAA; 3_000];
+    unit.ports[0].message = vec![0xAA; 3_000];
     unit.feed(&vec![0x55; 2_000]);
-    assert_eq!((unit.record.place, unit.record.count), (Place::Run, 1_034));
-    assert!(unit.message[..1_033].iter().all(|&byte| byte == 0x55));
-    assert!(unit.message[1_033..].iter().all(|&byte| byte == 0xAA));
-    let before = unit.message.clone();
+    assert_eq!(unit.stands(), (Place::Run, 1_034));
+    assert!(unit.ports[0].message[..1_033]
+        .iter()
+        .all(|&byte| byte == 0x55));
+    assert!(unit.ports[0].message[1_033..]
+        .iter()
+        .all(|&byte| byte == 0xAA));
+    let before = unit.ports[0].message.clone();
     assert_eq!(unit.run(&[]).0, 7);
-    assert_eq!(unit.message, before);
+    assert_eq!(unit.ports[0].message, before);
 }
 
 #[test]
 fn bytes_after_a_fault_are_not_stored() {
     let mut unit = Bench::open();
     unit.feed(&[1, 2, 0xDB, 3, 4, 5]);
-    assert_eq!(unit.message[..3], [1, 2, 0xAA]);
+    assert_eq!(unit.ports[0].message[..3], [1, 2, 0xAA]);
 }
 
 #[test]
@@ -136,7 +137,7 @@ fn a_wrong_crc_before_another_address() {
             before.diagnostics[0x0A] + u32::from(due == 8)
         );
         if due != 1 {
-            assert_eq!(unit.reply, before.reply);
+            assert_eq!(unit.replies(), before.replies());
         }
     }
 }
@@ -177,7 +178,7 @@ fn the_tests_read_the_buffer_as_it_is_lent_at_the_close() {
     let mut unit = Bench::open();
     unit.feed(&message(ADDRESS, 0x11, 0x80, &[])[..5]);
     let other = message(ADDRESS, 0x22, 0xC0, &[]);
-    unit.message[..5].copy_from_slice(&other);
+    unit.ports[0].message[..5].copy_from_slice(&other);
     let (answer, sent) = unit.run(&[]);
     assert_eq!(
         (answer, unpacked(&sent)[..3].to_vec()),
@@ -186,7 +187,7 @@ fn the_tests_read_the_buffer_as_it_is_lent_at_the_close() {
     // A byte altered there is a wrong CRC.
     let mut unit = Bench::open();
     unit.feed(&message(ADDRESS, 0x11, 0x80, &[])[..5]);
-    unit.message[1] ^= 1;
+    unit.ports[0].message[1] ^= 1;
     assert_eq!(unit.run(&[]).0, 8);
 }
 
@@ -195,12 +196,11 @@ fn any_record_is_believed() {
     // The whole message stands in the buffer, and the record says that it was just received.
     let mut unit = Bench::fresh();
     let sound = message(ADDRESS, 0x11, 0x89, &edac_at(0, &[4]));
-    unit.message[..sound.len()].copy_from_slice(&sound);
-    unit.record = Record {
-        mode: Mode::Application,
+    unit.ports[0].message[..sound.len()].copy_from_slice(&sound);
+    unit.record.mode = Mode::Application;
+    *unit.receiver() = Receiver {
         place: Place::Run,
         count: sound.len(),
-        ..unit.record
     };
     let (answer, sent) = unit.run(&[]);
     assert_eq!(answer, 1);
@@ -214,12 +214,15 @@ fn any_record_is_believed() {
         (Place::Escape, 1_034, 5),
         (Place::Fault, 0, 5),
         (Place::Fault, 8, 5),
+        (Place::Thrown, 0, 0),
+        (Place::Thrown, 8, 0),
+        (Place::Thrown, 1_034, 0),
     ] {
         let mut unit = Bench::fresh();
-        unit.record.place = place;
-        unit.record.count = count;
+        unit.receiver().place = place;
+        unit.receiver().count = count;
         assert_eq!(unit.run(&[]), (answer, vec![]), "{place:?} {count}");
-        assert_eq!((unit.record.place, unit.record.count), (Place::Run, 0));
+        assert_eq!(unit.stands(), (Place::Run, 0));
     }
 }
 

@@ -1,17 +1,19 @@
-//! The refusals 20 to 26 and 29: each alone, and each before all that come after it.
+//! The refusals 20 to 27 and 29: each alone, and each before all that come after it.
 use crate::bench::*;
-use compare::record::{Mode, Place, REFUSED};
+use compare::record::{Mode, FRESH, REFUSED};
 
 /// Makes the call wrong in the way of a number.
 fn spoil(unit: &mut Bench, number: u8) {
     match number {
-        20 => unit.record.address = 0xC0,
+        20 => unit.record.strap = 8,
         21 => unit.edac.push(0),
         22 => unit.fram.truncate(unit.fram.len() - 256),
         23 => unit.sums.push(0),
         24 => unit.diagnostics.push(0),
-        25 => unit.reply.truncate(2_067),
-        26 => unit.record.count = 1_035,
+        25 => unit.ports[1].reply.truncate(2_067),
+        26 => unit.record.receivers[1].count = 1_035,
+        // The port is no part of the unit: its bytes are told another.
+        27 => {}
         29 => unit.record.limit = 1_029,
         _ => panic!("{number}"),
     }
@@ -19,20 +21,22 @@ fn spoil(unit: &mut Bench, number: u8) {
 
 #[test]
 fn each_alone_and_the_lowest_first() {
-    let numbers = [20, 21, 22, 23, 24, 25, 26, 29];
+    let numbers = [20, 21, 22, 23, 24, 25, 26, 27, 29];
     for (at, lowest) in numbers.into_iter().enumerate() {
         let after = &numbers[at + 1..];
         for others in 0..1 << after.len() {
             let mut unit = Bench::open();
-            spoil(&mut unit, lowest);
-            for (bit, &number) in after.iter().enumerate() {
-                if others >> bit & 1 == 1 {
-                    spoil(&mut unit, number);
-                }
-            }
+            let chosen = (after.iter().enumerate()).filter(|(bit, _)| others >> bit & 1 == 1);
+            let wrong: Vec<u8> = [lowest]
+                .into_iter()
+                .chain(chosen.map(|(_, n)| *n))
+                .collect();
+            wrong.iter().for_each(|&number| spoil(&mut unit, number));
+            let port = if wrong.contains(&27) { 2 } else { 0 };
             for byte in [FEND, 0xDB, 0x41] {
                 let before = unit.clone();
-                assert_eq!(unit.byte(byte), (lowest, 0), "others {others:b}");
+                let stepped = unit.step_on(port, byte);
+                assert_eq!((stepped.answer, stepped.sent), (lowest, 0), "{wrong:?}");
                 assert_eq!(unit, before);
             }
         }
@@ -40,11 +44,11 @@ fn each_alone_and_the_lowest_first() {
 }
 
 #[test]
-fn set_up_refuses_the_same_but_26() {
+fn set_up_refuses_the_same_but_26_and_27() {
     for lowest in 20..=25 {
         for others in 0..1 << (25 - lowest) {
             let mut unit = Bench::bare(512);
-            let address = if lowest == 20 { 0xDB } else { ADDRESS };
+            let strap = if lowest == 20 { 8 } else { STRAP };
             for number in lowest.max(21)..=25 {
                 if number == lowest || others >> (number - lowest - 1) & 1 == 1 {
                     match number {
@@ -53,9 +57,9 @@ fn set_up_refuses_the_same_but_26() {
                     }
                 }
             }
-            unit.record.count = 9;
+            unit.receiver().count = 9;
             let before = unit.clone();
-            assert_eq!(unit.set_up(address), lowest);
+            assert_eq!(unit.set_up(strap), lowest);
             assert_eq!(unit.record, REFUSED);
             unit.record = before.record;
             assert_eq!(unit, before);
@@ -66,17 +70,15 @@ fn set_up_refuses_the_same_but_26() {
 }
 
 #[test]
-fn every_address() {
-    for address in 0..=0xFF {
-        let due = if matches!(address, 0x00 | 0xC0 | 0xDB) {
-            20
-        } else {
-            0
-        };
+fn every_strap() {
+    for strap in 0..=0xFF {
+        let due = if strap > 7 { 20 } else { 0 };
         let mut unit = Bench::bare(256);
-        assert_eq!(unit.set_up(address), due);
+        assert_eq!(unit.set_up(strap), due);
+        assert_eq!(unit.record.strap, strap.min(8));
+        assert_eq!(unit.record.receivers, [FRESH; 2]);
         let mut unit = Bench::fresh();
-        unit.record.address = address;
+        unit.record.strap = strap;
         assert_eq!(unit.byte(0x00).0, due);
     }
 }
@@ -87,7 +89,7 @@ fn lengths_about_each_edge() {
         let (mut bare, mut open) = (Bench::bare(1_024), Bench::open());
         change(&mut bare);
         change(&mut open);
-        let answers = (bare.set_up(ADDRESS), open.byte(1).0);
+        let answers = (bare.set_up(STRAP), open.byte(1).0);
         assert_eq!(answers.0, answers.1);
         answers.0
     };
@@ -104,10 +106,16 @@ fn lengths_about_each_edge() {
     assert_eq!(wrong(|u| u.diagnostics.truncate(30)), 24);
     assert_eq!(wrong(|u| u.diagnostics.resize(32, 0)), 24);
     assert_eq!(wrong(|u| u.diagnostics.resize(124, 0)), 24);
-    assert_eq!(wrong(|u| u.message.truncate(1_032)), 25);
-    assert_eq!(wrong(|u| u.reply.truncate(2_067)), 25);
-    assert_eq!(wrong(|u| u.message.resize(1_034, 0)), 0);
-    assert_eq!(wrong(|u| u.reply.resize(5_000, 0)), 0);
+    assert_eq!(wrong(|u| u.ports[0].message.truncate(1_032)), 25);
+    assert_eq!(wrong(|u| u.ports[0].reply.truncate(2_067)), 25);
+    assert_eq!(wrong(|u| u.ports[1].message.truncate(1_032)), 25);
+    assert_eq!(wrong(|u| u.ports[1].reply.truncate(2_067)), 25);
+    assert_eq!(wrong(|u| u.ports[0].message.clear()), 25);
+    assert_eq!(wrong(|u| u.ports[1].reply.clear()), 25);
+    assert_eq!(wrong(|u| u.ports[0].message.resize(1_034, 0)), 0);
+    assert_eq!(wrong(|u| u.ports[0].reply.resize(2_069, 0)), 0);
+    assert_eq!(wrong(|u| u.ports[1].message.resize(3_000, 0)), 0);
+    assert_eq!(wrong(|u| u.ports[1].reply.resize(5_000, 0)), 0);
 }
 
 #[test]
@@ -124,10 +132,10 @@ fn fram_lengths() {
         (262_400, 22),
     ] {
         let mut unit = Bench::bare(fram_len);
-        assert_eq!(unit.set_up(ADDRESS), due, "{fram_len}");
+        assert_eq!(unit.set_up(STRAP), due, "{fram_len}");
         // A record and a slice that agree on a wrong length are refused too.
         let mut unit = Bench::bare(fram_len);
-        unit.record.address = ADDRESS;
+        unit.record.strap = STRAP;
         unit.record.bootloader_len = unit.bootloader.len();
         unit.record.fram_len = fram_len;
         unit.record.limit = 1_028;
@@ -161,14 +169,15 @@ fn sums_are_judged_against_the_lent_fram() {
 
 #[test]
 fn a_count_above_1034_in_every_place() {
-    for place in [Place::Fresh, Place::Run, Place::Escape, Place::Fault] {
+    for (place, port) in PLACES.into_iter().flat_map(|p| [(p, 0), (p, 1)]) {
         for mode in [Mode::Bootloader, Mode::Application] {
             for (count, due) in [(1_034, 0), (1_035, 26), (usize::MAX, 26)] {
                 let mut unit = Bench::open();
-                unit.record.place = place;
+                unit.record.receivers[port].place = place;
                 unit.record.mode = mode;
-                unit.record.count = count;
+                unit.record.receivers[port].count = count;
                 let before = unit.clone();
+                // The byte is for port 0.
                 assert_eq!(unit.byte(0xDD), (due, 0));
                 if due == 26 {
                     assert_eq!(unit, before);
