@@ -27,6 +27,7 @@ use Rattle.ports.specs.declared.Ports.{Ports}
 use Rattle.ports.specs.declared.Sending.{Sending}
 use Rattle.ports.specs.Sides.{sideOf, numberOfSide, Both, ofSide, put}
 use Rattle.ports.specs.Ports.{portOf, withPort, countOf, AfterByte, hearOf, isOpen}
+use Rattle.ports.proofs.Sides.{put-there}
 use Rattle.judging.specs.declared.Unit.{Unit}
 use Rattle.judging.specs.declared.fitting.Fit.{Fit}
 use Rattle.judging.specs.declared.fitting.Fit.the-variants.{Fits, Unfit}
@@ -37,7 +38,7 @@ use Rattle.unit.specs.Steps.{servedOf, stepOf}
 use Rattle.demands.specs.Locking.{locks}
 use Rattle.demands.specs.Leaving.{heardPorts, hasReply, portsAfter, Leaves}
 use Rattle.demands.specs.Calls.{Call, lentTo, callOn, isOn, answering, fedOf, reachedBy, bytesOn, SendsNothingOn, NoReplyOn, delivering, lentLengths, Suits, AllSuit, Serves, comesTo}
-use Rattle.demands.proofs.Cases.{put-there, heardOn, unitHeard, worldHeard}
+use Rattle.demands.proofs.Cases.{heardOn, unitHeard, worldHeard}
 use Rattle.demands.proofs.DemandOne.{heard-of-one, what-every-answer-leaves}
 
 -- ---- a unit that goes on

@@ -18,6 +18,7 @@ use Rattle.ports.specs.declared.Answered.the-variants.{On, Nowhere}
 use Rattle.ports.specs.declared.Side.the-variants.{Zero, One}
 use Rattle.ports.specs.Sides.{sideOf, Both, ofSide, put}
 use Rattle.ports.specs.Ports.{answeredOn, portOf, withPort, countOf, AfterByte, hearOf, firstCount, isSending}
+use Rattle.ports.proofs.Sides.{put-there}
 use Rattle.memory.specs.Bytes.{stretch}
 use Rattle.memory.specs.Counts.{channels, countedUp}
 use Rattle.memory.specs.Edac.{edacSize}
@@ -85,11 +86,7 @@ module _ (P : Bool → Outcome → Type 0) (u : Unit) (side : Side) (sending : S
 
 -- ---- any call
 
--- the message buffer that was put there, and one put back where it was
-pub put-there : {A : Type 0} (side : Side) (two : Both A) (a : A) → ofSide side (put side two a) ≡ a
-put-there Zero two a = refl
-put-there One two a = refl
-
+-- a message buffer put back where it was
 pub put-back : {A : Type 0} (side : Side) (two : Both A) → put side two (ofSide side two) ≡ two
 put-back Zero two = refl
 put-back One two = refl

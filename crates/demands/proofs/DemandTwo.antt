@@ -45,6 +45,7 @@ use Rattle.ports.specs.declared.Answered.{Answered}
 use Rattle.ports.specs.declared.Answered.the-variants.{On, Nowhere}
 use Rattle.ports.specs.Sides.{numberOfSide, Both, both, ofSide, put}
 use Rattle.ports.specs.Ports.{answeredOn, portOf, withPort, hearOf, AfterByte, closesSome, isOpen, isSending, lostCount}
+use Rattle.ports.proofs.Sides.{put-there}
 use Rattle.judging.specs.declared.Unit.{Unit}
 use Rattle.judging.specs.Fitting.{largestCount}
 use Rattle.judging.specs.Judging.{largestMessage, dropped, soundOf, commandOn, runOf, verdictOf, withPorts}
@@ -57,7 +58,7 @@ use Rattle.commanding.specs.Commanded.{answered, orderedOf, commandedOf}
 use Rattle.unit.specs.Steps.{servedOf, stepOf}
 use Rattle.demands.specs.Calls.{Call, lentTo, callOn, isOn, Fed, answering, fedOf, reachedBy, bytesOn, SendsNothingOn, NoReplyOn, openedOn, delivering, Suits, AllSuit, Serves, Idle, comesTo, answeredBy, addressedOf, answerMessage, Bytes}
 use Rattle.demands.specs.Orders.{sentBy}
-use Rattle.demands.proofs.Cases.{put-there, unitHeard, worldHeard, of-anything-heard, of-any-call, a-refused-step-has-its-number}
+use Rattle.demands.proofs.Cases.{unitHeard, worldHeard, of-anything-heard, of-any-call, a-refused-step-has-its-number}
 use Rattle.demands.proofs.Answers.{Spoken, a-command-done, a-command-refused, with-no-reply, with-a-lost-reply, with-a-reply, with-nothing-fitted}
 use Rattle.demands.proofs.DemandOne.{high-sends}
 use Rattle.demands.proofs.Along.{Same, a-call-keeps-the-same, the-same-is-met, suits-still, all-suit-still, a-call-that-suits-fits, got, still-serves, served, idle-port-as-heard, message-as-heard, port-as-it-was, message-as-it-was, all-but-the-last}

@@ -29,6 +29,7 @@ use Rattle.ports.specs.declared.Answered.{Answered}
 use Rattle.ports.specs.declared.Answered.the-variants.{On, Nowhere}
 use Rattle.ports.specs.Sides.{sideOf, numberOfSide, ofSide}
 use Rattle.ports.specs.Ports.{answeredOn, portOf, withPort, countOf, hearing, hearOf, isOpen, firstCount, thrownCount, lostCount}
+use Rattle.ports.proofs.Sides.{put-there}
 use Rattle.judging.specs.declared.Unit.{Unit}
 use Rattle.judging.specs.Judging.{largestMessage, withPorts, verdictOf}
 use Rattle.judging.proofs.Serving.{both-hold}
@@ -38,7 +39,6 @@ use Rattle.unit.specs.Steps.{servedOf, stepOf}
 use Rattle.demands.specs.Leaving.{heardPorts, heardMessages, hasReply, isUnsaid, oneMoreLost, countsAfter, shownLocked, portsAfter}
 use Rattle.demands.specs.Locking.{locks}
 use Rattle.demands.specs.Calls.{Call, lentTo, callOn, isOn, Fed, answering, fedOf, reachedBy, bytesOn, openedOn, delivering, Suits, AllSuit, Serves, comesTo}
-use Rattle.demands.proofs.Cases.{put-there}
 use Rattle.demands.proofs.DemandOne.{what-every-answer-leaves}
 use Rattle.demands.proofs.Along.{a-call-keeps-the-same, suits-still, all-suit-still, still-serves, served, idle-port-as-it-was, message-as-it-was}
 

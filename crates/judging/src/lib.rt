@@ -14,7 +14,7 @@ ghost use Prim.Native.Nat.{_≤_};
 ghost use lib.ListN.{length};
 ghost use Rattle.line.specs.Packing.{shortestMessage, messageSize};
 ghost use Rattle.ports.specs.Sides.{both};
-ghost use Rattle.judging.specs.Judging.{largestMessage, dropped, soundOf, heardFor, runOf, judgingOf, receivedOf, judgeOf};
+ghost use Rattle.judging.specs.Judging.{dropped, soundOf, heardFor, runOf, verdictOf, judgingOf, judgeOf};
 
 // What the unit is between two calls: its strap, the most data bytes of a message on its bus, its mode, whether bootloader FRAM is
 // locked, the lengths of bootloader FRAM and of user FRAM that were set up, and its two ports.
@@ -115,51 +115,16 @@ fn run(largest: u16, strap: u8, side: Side, count: usize, message: &[u8]) -> Ver
     heard_for(strap, side, message[0], count)
 }
 
-// One byte received on a port, of a unit that is not refused. The message buffer is that of the port.
-fn received(unit: Unit, side: Side, byte: u8, message: &mut [u8]) -> Judged
-    requires { ⌜ (largestMessage (unit .limit) ≤ messageSize) × (messageSize ≤ length (now message)) ⌝ }
-    ensures { λ r. ⌜ judgingOf r (now (message .exit)) ≡ receivedOf unit side byte (now (message .entry)) ⌝ }
+// The verdict on what was heard on a port, with the message buffer of that port.
+fn verdict_of(largest: u16, strap: u8, side: Side, heard: Heard, message: &[u8]) -> Verdict
+    requires { ⌜ (largest ≤ messageSize) × (messageSize ≤ length (now message)) ⌝ }
+    ensures { λ r. ⌜ r ≡ verdictOf largest strap side heard (now (message .entry)) ⌝ }
 {
-    let ports = unit.ports;
-    let mode = unit.mode;
-    let largest = unit.limit + SHORTEST_MESSAGE as u16;
-    let port = ports::port_of(side, ports);
-    let got = ports::hear(largest, port, byte, message);
-    let heard = got.heard;
-    let heard_by = got.port;
-    let after = ports::with_port(side, ports, heard_by);
-    let next = Unit {
-        strap: unit.strap,
-        limit: unit.limit,
-        mode,
-        locked: unit.locked,
-        bootloader_len: unit.bootloader_len,
-        fram_len: unit.fram_len,
-        ports: after,
-    };
     match heard {
-        Heard::Taken => Judged {
-            unit: next,
-            verdict: Verdict::Quiet(Answer::Taken),
-        },
-        Heard::Empty => Judged {
-            unit: next,
-            verdict: Verdict::Quiet(Answer::Taken),
-        },
-        Heard::Framing => {
-            let verdict = dropped_as(side, Answer::Framing, FRAMINGS);
-            Judged {
-                unit: next,
-                verdict,
-            }
-        }
-        Heard::Message(count) => {
-            let verdict = run(largest, unit.strap, side, count, message);
-            Judged {
-                unit: next,
-                verdict,
-            }
-        }
+        Heard::Taken => Verdict::Quiet(Answer::Taken),
+        Heard::Empty => Verdict::Quiet(Answer::Taken),
+        Heard::Framing => dropped_as(side, Answer::Framing, FRAMINGS),
+        Heard::Message(count) => run(largest, strap, side, count, message),
     }
 }
 
@@ -183,10 +148,26 @@ pub fn judge(
             verdict: Verdict::Quiet(answer),
         },
         fitting::Fit::Fits => {
-            if port == 0 {
-                received(unit, Side::Zero, byte, message0)
-            } else {
-                received(unit, Side::One, byte, message1)
+            let side = ports::side_of(port);
+            let mode = unit.mode;
+            let before = unit.ports;
+            let largest = unit.limit + SHORTEST_MESSAGE as u16;
+            let got = ports::hear_on(side, largest, before, byte, message0, message1);
+            let heard = got.heard;
+            let ports = got.ports;
+            let message = ports::heard_by(side, message0, message1);
+            let verdict = verdict_of(largest, unit.strap, side, heard, message);
+            Judged {
+                unit: Unit {
+                    strap: unit.strap,
+                    limit: unit.limit,
+                    mode,
+                    locked: unit.locked,
+                    bootloader_len: unit.bootloader_len,
+                    fram_len: unit.fram_len,
+                    ports,
+                },
+                verdict,
             }
         }
     }

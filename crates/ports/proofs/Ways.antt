@@ -19,11 +19,12 @@ use Rattle.ports.specs.declared.Side.the-variants.{Zero, One}
 use Rattle.ports.specs.declared.Port.{Port}
 use Rattle.ports.specs.declared.Port.the-variants.{Hearing, Throwing}
 use Rattle.ports.specs.declared.Ports.{Ports}
+use Rattle.ports.specs.declared.Got.{Got}
 use Rattle.ports.specs.declared.Answered.{Answered}
 use Rattle.ports.specs.declared.Fate.{Fate}
 use Rattle.ports.specs.declared.Fate.the-variants.{Nothing, Lost, Leaves}
 use Rattle.ports.specs.Sides.{both, ofSide}
-use Rattle.ports.specs.Ports.{byAddress, answeredOn, portOf, withPort, countOf, hearing, hearOf, closesSome, isOpen, thrownCount, lostCount, Settlement, settlement, settleOf}
+use Rattle.ports.specs.Ports.{byAddress, answeredOn, portOf, withPort, countOf, AfterByte, hearing, hearingOf, hearOf, hearingOn, hearOnOf, closesSome, isOpen, thrownCount, lostCount, Settlement, settlement, settleOf}
 
 pub port-0-set : (side : Side) (ports : Ports) (port : Port) → side ≡ Zero → record { port0 = port; port1 = ports .port1 } ≡ withPort side ports port
 port-0-set side ports port e = ap (λ s. withPort s ports port) (sym e)
@@ -58,6 +59,20 @@ module _ (largest byte : ℕ) (port : Port) (message : List ℕ) where
       → hearing (Throwing count) heard.Taken message ≡ hearOf largest port byte message
   unfolding hearOf
   a-byte-thrown-away count is other = sym (ap (λ p. hearOf largest p byte message) is ∙ simp (ne-eqb byte fend other))
+
+-- on one of the two
+module _ (side : Side) (largest byte : ℕ) (ports : Ports) (a b : List ℕ) (r : Got) (after : List ℕ) where
+  pub heard-on-0 : side ≡ Zero → hearingOf r after ≡ hearOf largest (ports .port0) byte a
+      → hearingOn (record { port0 = r .port; port1 = ports .port1 }) (r .heard) (both after b) ≡ hearOnOf side largest ports byte (both a b)
+  heard-on-0 is e =
+      ap (λ (got : AfterByte). hearingOn (withPort Zero ports (got .port)) (got .heard) (both (got .message) b)) e
+      ∙ ap (λ s. hearOnOf s largest ports byte (both a b)) (sym is)
+
+  pub heard-on-1 : side ≡ One → hearingOf r after ≡ hearOf largest (ports .port1) byte b
+      → hearingOn (record { port0 = ports .port0; port1 = r .port }) (r .heard) (both a after) ≡ hearOnOf side largest ports byte (both a b)
+  heard-on-1 is e =
+      ap (λ (got : AfterByte). hearingOn (withPort One ports (got .port)) (got .heard) (both a (got .message))) e
+      ∙ ap (λ s. hearOnOf s largest ports byte (both a b)) (sym is)
 
 -- ---- whether a run is open
 

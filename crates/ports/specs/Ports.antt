@@ -19,6 +19,7 @@ use Rattle.ports.specs.declared.Answered.{Answered}
 use Rattle.ports.specs.declared.Answered.the-variants.{On, Nowhere}
 use Rattle.ports.specs.declared.Fate.{Fate}
 use Rattle.ports.specs.declared.Fate.the-variants.{Nothing, Lost, Leaves}
+use Rattle.ports.specs.Sides.{Both, ofSide, put}
 
 -- ---- addresses
 
@@ -76,6 +77,21 @@ hearOf largest (Hearing receiver) byte message =
     let got = receiveOf largest receiver byte message in hearing (Hearing (got .receiver)) (got .heard) (got .message)
 hearOf largest (Throwing count) byte message =
     cond (eqb byte fend) (hearing (Hearing opened) heard.Empty message) (hearing (Throwing count) heard.Taken message)
+
+-- What one byte on one of the two ports leaves of both, with both message buffers.
+pub record AfterByteOn : Type 0 where
+  pub ports : Ports
+  pub heard : Heard
+  pub messages : Both (List ℕ)
+
+abbrev pub hearingOn : Ports → Heard → Both (List ℕ) → AfterByteOn
+hearingOn ports heard messages = record { ports = ports; heard = heard; messages = messages }
+
+-- The port that it came in on hears it; the other, and its buffer, stay.
+abbrev pub hearOnOf : Side → ℕ → Ports → ℕ → Both (List ℕ) → AfterByteOn
+hearOnOf side largest ports byte messages =
+    let got = hearOf largest (portOf side ports) byte (ofSide side messages) in
+    hearingOn (withPort side ports (got .port)) (got .heard) (put side messages (got .message))
 
 -- ---- a reply
 

@@ -7,7 +7,7 @@ use memory::counts::count_up;
 ghost use mathlib.Core.Path.{_≡_};
 ghost use lib.ListN.{take};
 ghost use Rattle.ports.specs.Sides.{sideOf, both, ofSide};
-ghost use Rattle.ports.specs.Ports.{countOf, hearingOf, hearOf, isOpen, portOf, withPort, isSending, byAddress, answeredOn, firstCount, thrownCount, lostCount, settlement, settleOf};
+ghost use Rattle.ports.specs.Ports.{countOf, hearingOf, hearOf, hearingOn, hearOnOf, isOpen, portOf, withPort, isSending, byAddress, answeredOn, firstCount, thrownCount, lostCount, settlement, settleOf};
 
 // One of the two ports.
 pub enum Side {
@@ -35,6 +35,12 @@ pub struct Sending {
 // The port after one byte, and what was heard.
 pub struct Got {
     pub port: Port,
+    pub heard: Heard,
+}
+
+// Both ports after one byte on one of them, and what was heard.
+pub struct GotOn {
+    pub ports: Ports,
     pub heard: Heard,
 }
 
@@ -111,7 +117,7 @@ pub fn count_of(port: Port) -> usize
 }
 
 // One byte that comes in on a port.
-pub fn hear(largest: u16, port: Port, byte: u8, message: &mut [u8]) -> Got
+fn hear(largest: u16, port: Port, byte: u8, message: &mut [u8]) -> Got
     ensures { λ r. ⌜ hearingOf r (now (message .exit)) ≡ hearOf largest port byte (now (message .entry)) ⌝ }
 {
     match port {
@@ -138,6 +144,48 @@ pub fn hear(largest: u16, port: Port, byte: u8, message: &mut [u8]) -> Got
                     port: Port::Throwing(count),
                     heard: Heard::Taken,
                 }
+            }
+        }
+    }
+}
+
+// One byte that comes in on one of the two. Each arm makes both ports, so that they need not be stored to set the one that heard it.
+pub fn hear_on(
+    side: Side,
+    largest: u16,
+    ports: Ports,
+    byte: u8,
+    message0: &mut [u8],
+    message1: &mut [u8],
+) -> GotOn
+    ensures { λ r. ⌜ hearingOn (r .ports) (r .heard) (both (now (message0 .exit)) (now (message1 .exit)))
+        ≡ hearOnOf side largest ports byte (both (now (message0 .entry)) (now (message1 .entry))) ⌝ }
+{
+    let port0 = ports.port0;
+    let port1 = ports.port1;
+    match side {
+        Side::Zero => {
+            let got = hear(largest, port0, byte, message0);
+            let after = got.port;
+            let heard = got.heard;
+            GotOn {
+                ports: Ports {
+                    port0: after,
+                    port1,
+                },
+                heard,
+            }
+        }
+        Side::One => {
+            let got = hear(largest, port1, byte, message1);
+            let after = got.port;
+            let heard = got.heard;
+            GotOn {
+                ports: Ports {
+                    port0,
+                    port1: after,
+                },
+                heard,
             }
         }
     }

@@ -2,10 +2,7 @@
 use mathlib.Core.Path.{_≡_, sym, ap, ap₂, _∙_, subst}
 use mathlib.Core.Bool.{Bool}
 use mathlib.Core.List.{List}
-use Prim.Native.Nat.{ℕ, _≤_}
-use native.Mathlib.Omega.{arith}
-use lib.ListN.{length}
-use Rattle.line.specs.Packing.{messageSize}
+use Prim.Native.Nat.{ℕ}
 use Rattle.memory.specs.Counts.{countedUp}
 use Rattle.memory.specs.Status.{statusWritten}
 use Rattle.blocks.specs.Fram.{kept, freshSums}
@@ -15,8 +12,7 @@ use Rattle.answer.specs.declared.Answer.the-variants.{Taken}
 use Rattle.ports.specs.declared.Side.{Side}
 use Rattle.ports.specs.declared.Ports.{Ports}
 use Rattle.ports.specs.declared.Sending.{Sending}
-use Rattle.ports.specs.declared.Side.the-variants.{Zero, One}
-use Rattle.ports.specs.Sides.{sideOf, Both, both, ofSide}
+use Rattle.ports.specs.Sides.{sideOf, Both, ofSide}
 use Rattle.ports.specs.Ports.{bothFresh, isSending}
 use Rattle.judging.specs.declared.Unit.{Unit}
 use Rattle.judging.specs.declared.Judged.{Judged}
@@ -78,9 +74,3 @@ module _ (u : Unit) (number byte : ℕ) (sending : Sending) (w : World) (r : Jud
       c
       ∙ ap₂ (λ (b : Bool) (m : List ℕ). commandedOf (r .unit) telemetry b count m (withMessages w messages)) says (is ∙ ap (λ s. ofSide s messages) at)
       ∙ served-as (Command count telemetry) k
-
--- the message buffer of a port is as long as those that were lent
-pub long-enough-of : (side : Side) (lent0 lent1 : ℕ) (left0 left1 message : List ℕ) → ((s : Side) → messageSize ≤ ofSide s (both lent0 lent1)) → length left0 ≡ lent0 → length left1 ≡ lent1
-    → message ≡ ofSide side (both left0 left1) → messageSize ≤ length message
-long-enough-of Zero lent0 lent1 left0 left1 message fits zero one is = omega (arith, fits Zero, zero, ap length is)
-long-enough-of One lent0 lent1 left0 left1 message fits zero one is = omega (arith, fits One, one, ap length is)

@@ -1,11 +1,10 @@
--- `judging::judge` meets its contract: refused, or received on one of the ports. Assumes nothing.
+-- `judging::judge` meets its contract: refused, or heard on one of the ports and judged. Assumes nothing.
 use mathlib.Core.Path.{sym, _∙_}
 use native.Mathlib.Omega.{arith}
 use Rattle.carrying.proofs.Limits.{within-both-ends}
-use Rattle.ports.specs.declared.Side.the-variants.{Zero, One}
 use Rattle.ports.specs.Sides.{both}
 use Rattle.judging.proofs.Serving.{a-served-step-fits, a-served-record-is-sound}
-use Rattle.judging.proofs.Ways.{port-0-named, port-1-named, refused-quietly, received-and-judged}
+use Rattle.judging.proofs.Ways.{long-enough-of, refused-quietly, received-and-judged}
 use borrow.Author.Needs.{needs}
 use Rattle.judging.proofs.judge.Statement.{statement}
 use Rattle.judging.proofs.judge.Tie as tie
@@ -19,21 +18,32 @@ enum-known-fit c = search needs
 enum-told : tie.Need-enum-told
 enum-told c = search needs
 
-received-requires : tie.Need-received-requires
-received-requires c κs =
-    let a = c .before .before .before .before .before .before .before .args in
-    let served = sym (c .before .before .before .before .step-fit .ensures) ∙ c .before .before .enum-told .given .1 in
-    let room = a-served-step-fits (a .unit) (a .port) (a .lengths) served .message-fits Zero in
-    let most = within-both-ends (a .unit .limit) (a-served-record-is-sound (a .unit) (a .port) (a .lengths) served .limit) .1 in
-    (omega (arith, most), omega (arith, c .before .before .before .before .before .before .before .pre .0, room))
+side-of-requires : tie.Need-side-of-requires
+side-of-requires c κs = search needs
 
-received-requires-2 : tie.Need-received-requires-2
-received-requires-2 c κs =
-    let a = c .before .before .before .before .before .before .before .args in
-    let served = sym (c .before .before .before .before .step-fit .ensures) ∙ c .before .before .enum-told .given .1 in
-    let room = a-served-step-fits (a .unit) (a .port) (a .lengths) served .message-fits One in
+cast-largest : tie.Need-cast-largest
+cast-largest c = search needs
+
+add-largest : tie.Need-add-largest
+add-largest c =
+    let a = c .before .before .before .before .before .before .before .before .args in
+    let served = sym (c .before .before .before .before .before .step-fit .ensures) ∙ c .before .before .before .enum-told .given .1 in
     let most = within-both-ends (a .unit .limit) (a-served-record-is-sound (a .unit) (a .port) (a .lengths) served .limit) .1 in
-    (omega (arith, most), omega (arith, c .before .before .before .before .before .before .before .pre .1, room))
+    omega (arith, most)
+
+hear-on-requires : tie.Need-hear-on-requires
+hear-on-requires c κs = search needs
+
+heard-by-requires : tie.Need-heard-by-requires
+heard-by-requires c κs = search needs
+
+verdict-of-requires : tie.Need-verdict-of-requires
+verdict-of-requires c κs =
+    let a = c .before .before .before .before .before .before .before .before .before .before .before .before .before .before .before .before .before .before .before .args in
+    let served = sym (c .before .before .before .before .before .before .before .before .before .before .before .before .before .before .before .before .step-fit .ensures) ∙ c .before .before .before .before .before .before .before .before .before .before .before .before .before .before .enum-told .given .1 in
+    let room = a-served-step-fits (a .unit) (a .port) (a .lengths) served .message-fits in
+    let most = within-both-ends (a .unit .limit) (a-served-record-is-sound (a .unit) (a .port) (a .lengths) served .limit) .1 in
+    (omega (arith, most), long-enough-of (c .before .before .before .before .before .before .before .before .before .before .before .before .before .side-of .result) _ _ _ _ _ room (c .before .before .before .before .before .before .before .before .hear-on .kept .1 .1 .1 .1 .0 ∙ sym (c .before .before .before .before .before .before .before .before .before .before .before .before .before .before .before .before .before .before .before .pre .0)) (c .before .before .before .before .before .before .before .before .hear-on .kept .1 .1 .1 .1 .1 .0 ∙ sym (c .before .before .before .before .before .before .before .before .before .before .before .before .before .before .before .before .before .before .before .pre .1)) (c .heard-by .ensures))
 
 returns : tie.Need-returns
 returns c = let a = c .before .before .before .before .before .before .args in refused-quietly (a .unit) (a .port) (a .byte) (a .lengths) (both (a .message0 .now) (a .message1 .now)) _ (sym (c .before .before .before .step-fit .ensures) ∙ c .before .fit .given .1)
@@ -41,14 +51,11 @@ returns c = let a = c .before .before .before .before .before .before .args in r
 same-length : tie.Need-same-length
 same-length c = search needs
 
-returns-2 : tie.Need-returns-2
-returns-2 c = let a = c .before .before .before .before .before .before .before .before .before .before .args in received-and-judged (a .unit) (a .port) (a .byte) (a .lengths) (both (a .message0 .now) (a .message1 .now)) Zero _ (sym (c .before .before .before .before .before .before .before .step-fit .ensures) ∙ c .before .before .before .before .before .enum-told .given .1) (port-0-named (a .port) (c .before .before .before .before .if1 .taken)) (c .before .before .received .ensures)
-
 same-length-2 : tie.Need-same-length-2
 same-length-2 c = search needs
 
-returns-3 : tie.Need-returns-3
-returns-3 c = let a = c .before .before .before .before .before .before .before .before .before .before .args in received-and-judged (a .unit) (a .port) (a .byte) (a .lengths) (both (a .message0 .now) (a .message1 .now)) One _ (sym (c .before .before .before .before .before .before .before .step-fit .ensures) ∙ c .before .before .before .before .before .enum-told .given .1) (port-1-named (a .port) (c .before .before .before .before .if1 .left)) (c .before .before .received2 .ensures)
+returns-2 : tie.Need-returns-2
+returns-2 c = let a = c .before .before .before .before .before .before .before .before .before .before .before .before .before .before .before .before .before .before .before .before .args in received-and-judged (a .unit) (a .port) (a .byte) (a .lengths) (both (a .message0 .now) (a .message1 .now)) _ (c .before .before .before .before .before .before .before .before .before .hear-on .result) _ _ _ (sym (c .before .before .before .before .before .before .before .before .before .before .before .before .before .before .before .before .before .step-fit .ensures) ∙ c .before .before .before .before .before .before .before .before .before .before .before .before .before .before .before .enum-told .given .1) (c .before .before .before .before .before .before .before .before .before .before .before .before .before .before .side-of .ensures) (c .before .before .before .before .before .before .before .before .before .hear-on .ensures) (c .before .heard-by .ensures) (c .verdict-of .ensures)
 
 pub judge-spec : {M : Type 1} → statement M
 judge-spec =
@@ -57,10 +64,13 @@ judge-spec =
     step-fit-requires
     enum-known-fit
     enum-told
-    received-requires
-    received-requires-2
+    side-of-requires
+    cast-largest
+    add-largest
+    hear-on-requires
+    heard-by-requires
+    verdict-of-requires
     returns
     same-length
-    returns-2
     same-length-2
-    returns-3)
+    returns-2)

@@ -5,7 +5,8 @@ use Rattle.carrying.proofs.Limits.{within-both-ends}
 use Rattle.ports.specs.Sides.{both}
 use Rattle.ports.specs.declared.Side.the-variants.{Zero, One}
 use Rattle.commanding.specs.World.{world}
-use Rattle.unit.proofs.Serving.{guaranteed-by, an-answer-alone, a-drop-is-counted, a-command-is-served, long-enough-of}
+use Rattle.judging.proofs.Ways.{long-enough-of}
+use Rattle.unit.proofs.Serving.{guaranteed-by, an-answer-alone, a-drop-is-counted, a-command-is-served}
 use borrow.Author.Needs.{needs}
 use Rattle.unit.proofs.step.Statement.{statement}
 use Rattle.unit.proofs.step.Tie as tie
