@@ -1,10 +1,10 @@
--- `wheel::run` is safe and ends: both FRAMs and their sums keep their lengths, and the measure is the number of turns that are left, of which there is one at the start of each. Assumes nothing.
+-- `serving::run` is safe and ends: both FRAMs and their sums keep their lengths, and the measure is the number of turns that are left, of which there is one at the start of each. Assumes nothing.
 use Prim.Native.Nat.{_<_}
 use mathlib.Core.Path.{_≡_, refl, _∙_}
 use lib.ListN.{length}
 use native.Mathlib.Omega.{arith}
-use Rattle.wheel.proofs.run.Statement.{statement}
-use Rattle.wheel.proofs.run.Tie as tie
+use Rattle.serving.proofs.run.Statement.{statement}
+use Rattle.serving.proofs.run.Tie as tie
 
 abbrev Inv-loop : tie.InvT-loop
 Inv-loop strap limit locked file1 edac₀ bootloader₀ bootloader-sums₀ fram₀ sums₀ diagnostics₀ message0₀ reply0₀ message1₀ reply1₀ buffer₀ tally₀ largest₀ fed₀ flow₀ turns₀ edac bootloader bootloader-sums fram sums diagnostics message0 reply0 message1 reply1 buffer tally largest fed flow turns =

@@ -1,8 +1,8 @@
--- `wheel::serve` is safe and ends: both FRAMs and their sums are parts of their arrays. Assumes nothing.
+-- `serving::serve` is safe and ends: both FRAMs and their sums are parts of their arrays. Assumes nothing.
 use borrow.Author.Needs.{needs}
 use native.Mathlib.Omega.{arith}
-use Rattle.wheel.proofs.serve.Statement.{statement}
-use Rattle.wheel.proofs.serve.Tie as tie
+use Rattle.serving.proofs.serve.Statement.{statement}
+use Rattle.serving.proofs.serve.Tie as tie
 
 sub-run : tie.Need-sub-run
 sub-run c = omega arith
