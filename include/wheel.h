@@ -109,7 +109,7 @@ extern "C" {
 #define WHEEL_RUN 1u    /* between two FENDs */
 #define WHEEL_ESCAPE 2u /* the same, after FESC */
 #define WHEEL_FAULT 3u  /* the same, after a framing fault */
-#define WHEEL_THROWN 4u /* in a run that is thrown away up to its FEND, which is WHEEL_TAKEN, because a reply left on this port */
+#define WHEEL_THROWN 4u /* in a run that is thrown away up to its FEND (then WHEEL_TAKEN), since a reply left on this port */
 
 /* The sum of no bytes, which a sum starts from. */
 #define WHEEL_CRC_START 0xFFFFu
@@ -251,7 +251,7 @@ struct wheel {
     uint8_t *edac; /* WHEEL_EDAC bytes */
     struct wheel_fram bootloader;
     struct wheel_fram user;
-    struct wheel_stepped now; /* what the last call gave back: the record, how many bytes are to be sent where, number and cost */
+    struct wheel_stepped now; /* what the last call gave back: the record, what is to be sent, number and cost */
     uint32_t diagnostics[WHEEL_DIAGNOSTICS];
     struct wheel_port ports[2];
 };

@@ -33,10 +33,11 @@ use Rattle.judging.specs.declared.fitting.Fit.{Fit}
 use Rattle.judging.specs.declared.fitting.Fit.the-variants.{Fits, Unfit}
 use Rattle.judging.specs.Fitting.{framAsSetUp, framsAsSetUp, recordFit, largestCount, lengthsFit, stepFit}
 use Rattle.judging.specs.Judging.{largestMessage, verdictOf, withPorts, receivedOf, amongBoth, unless, judgeOf}
+use Rattle.judging.proofs.Serving.{a-served-record-is-sound}
 use Rattle.commanding.specs.World.{World, messageOf, lengthsOf, Outcome, withMessages, withMessage}
 use Rattle.unit.specs.Steps.{servedOf, stepOf}
 use Rattle.demands.specs.Locking.{locks}
-use Rattle.demands.specs.Leaving.{heardPorts, hasReply, portsAfter, Leaves}
+use Rattle.demands.specs.Leaving.{heardPorts, heardMessages, hasReply, portsAfter, Leaves}
 use Rattle.demands.specs.Calls.{Call, lentTo, callOn, isOn, answering, fedOf, reachedBy, bytesOn, SendsNothingOn, NoReplyOn, delivering, lentLengths, Suits, AllSuit, Serves, comesTo}
 use Rattle.demands.proofs.Cases.{heardOn, unitHeard, worldHeard}
 use Rattle.demands.proofs.DemandOne.{heard-of-one, what-every-answer-leaves}
@@ -69,7 +70,7 @@ suits-still side u v size c same suits =
 
 pub all-suit-still : (side : Side) (u v : Unit) (size : ℕ) (calls : List Call) → Same u v → AllSuit side u size calls → AllSuit side v size calls
 all-suit-still side u v size [] same all = tt
-all-suit-still side u v size (d ∷ calls) same all = (suits-still side u v size d same (all .0), all-suit-still side u v size calls same (all .1))
+all-suit-still side u v size (d ∷ calls) same all = ((λ on. suits-still side u v size d same (all .0 on)), all-suit-still side u v size calls same (all .1))
 
 -- ---- a call that is served
 
@@ -175,8 +176,9 @@ unfolding hearOf
 heard-long largest (Hearing r) byte message = the-buffer-keeps-its-length largest (byte ∷ []) r message
 heard-long largest (Throwing count) byte message = either-way (λ (h : AfterByte). length (h .message) ≡ length message) (eqb byte fend) _ _ (λ _. refl) (λ _. refl)
 
-above-all : (limit : ℕ) → isLimit limit ≡ true → largestMessage limit < largestCount
-above-all limit limited = omega (arith, within-both-ends limit limited .1)
+-- no message on the bus has a count that 26 refuses
+pub above-every-message : (limit : ℕ) → isLimit limit ≡ true → largestMessage limit < largestCount
+above-every-message limit limited = omega (arith, within-both-ends limit limited .1)
 
 -- any call keeps both counts below a bound, refused or not
 heard-ports-low : (u : Unit) (number byte : ℕ) (w : World) (bound : ℕ) → largestMessage (u .limit) < bound → ((s : Side) → countOf (portOf s (u .ports)) ≤ bound)
@@ -202,7 +204,7 @@ a-call-keeps-the-counts-low u number byte sending w bound above low s =
     (sym (ap (λ p. countOf (portOf s p)) (what-every-answer-leaves u number byte sending w .ports) ∙ count-kept s (numberOf (o .answer)) (o .port) (heardPorts u number byte w)))
     (heard-ports-low u number byte w bound above low s)
 
-module _ (side : Side) (u : Unit) (message : List ℕ) (c : Call) (serves : Serves u) (suits : Suits side u (length message) c) where
+module _ (side : Side) (u : Unit) (message : List ℕ) (c : Call) where
   abbrev o : Outcome
   o = callOn side u message c
 
@@ -212,28 +214,29 @@ module _ (side : Side) (u : Unit) (message : List ℕ) (c : Call) (serves : Serv
   abbrev pub got : AfterByte
   got = hearOf (largestMessage (u .limit)) (portOf side (u .ports)) (c .byte) message
 
-  fits : stepFit u (c .port) (lengthsOf w) ≡ Fits
-  fits = a-call-that-suits-fits side u message c serves suits
+  abbrev heard-by-both : Ports
+  heard-by-both = heardPorts u (c .port) (c .byte) w
 
-  leaves : Leaves u (c .port) (c .sending) (unitHeard u (c .port) (c .byte) w .ports) (worldHeard u (c .port) (c .byte) w .buffers .messages) (locks u (c .port) (c .byte) w) w o
-  leaves =
-      let same = heard-of-one u (c .port) (c .byte) w fits in
-      subst (λ (p : Ports). Leaves u (c .port) (c .sending) p (worldHeard u (c .port) (c .byte) w .buffers .messages) (locks u (c .port) (c .byte) w) w o) (sym (same .0))
-      (subst (λ (m : Both (List ℕ)). Leaves u (c .port) (c .sending) (heardPorts u (c .port) (c .byte) w) m (locks u (c .port) (c .byte) w) w o) (sym (same .1))
-      (what-every-answer-leaves u (c .port) (c .byte) (c .sending) w))
+  leaves : Leaves u (c .port) (c .sending) heard-by-both (heardMessages u (c .port) (c .byte) w) (locks u (c .port) (c .byte) w) w o
+  leaves = what-every-answer-leaves u (c .port) (c .byte) (c .sending) w
 
-  still-low : (s : Side) → countOf (portOf s (o .unit .ports)) ≤ largestCount
-  still-low = a-call-keeps-the-counts-low u (c .port) (c .byte) (c .sending) w largestCount (above-all (u .limit) (serves .2)) low
-    where
-      low : (s : Side) → countOf (portOf s (u .ports)) ≤ largestCount
-      low Zero = serves .0
-      low One = serves .1
+  -- a unit that serves goes on serving, after a call that is refused too
+  module _ (serves : Serves u) where
+    still-low : (s : Side) → countOf (portOf s (o .unit .ports)) ≤ largestCount
+    still-low = a-call-keeps-the-counts-low u (c .port) (c .byte) (c .sending) w largestCount (above-every-message (u .limit) (serves .2)) low
+      where
+        low : (s : Side) → countOf (portOf s (u .ports)) ≤ largestCount
+        low Zero = serves .0
+        low One = serves .1
 
-  pub still-serves : Serves (o .unit)
-  still-serves = (still-low Zero, still-low One, subst (λ (n : ℕ). isLimit n ≡ true) (sym (leaves .limit)) (serves .2))
+    pub still-serves : Serves (o .unit)
+    still-serves = (still-low Zero, still-low One, subst (λ (n : ℕ). isLimit n ≡ true) (sym (leaves .limit)) (serves .2))
 
-  -- on this port
-  module _ (here : c .port ≡ numberOfSide side) where
+  -- on this port, served
+  module _ (serves : Serves u) (suits : Suits side u (length message) c) (here : c .port ≡ numberOfSide side) where
+    fits : stepFit u (c .port) (lengthsOf w) ≡ Fits
+    fits = a-call-that-suits-fits side u message c serves suits
+
     at : sideOf (c .port) ≡ side
     at = side-named side (c .port) here
 
@@ -250,45 +253,50 @@ module _ (side : Side) (u : Unit) (message : List ℕ) (c : Call) (serves : Serv
         put-over Zero = refl
         put-over One = refl
 
+    heard-here : portOf side heard-by-both ≡ got .port
+    heard-here =
+        ap (portOf side) (sym (heard-of-one u (c .port) (c .byte) w fits .0))
+        ∙ ap₂ (λ (s : Side) (g : AfterByte). portOf side (withPort s (u .ports) (g .port))) at as-heard ∙ port-put side (u .ports) (got .port)
+
     pub port-as-heard : SendsNothingOn side o → portOf side (o .unit .ports) ≡ got .port
-    port-as-heard none =
-        ap (portOf side) (leaves .ports) ∙ undisturbed side (numberOf (o .answer)) (o .port) (unitHeard u (c .port) (c .byte) w .ports) none
-        ∙ ap₂ (λ (s : Side) (g : AfterByte). portOf side (withPort s (u .ports) (g .port))) at as-heard
-        ∙ port-put side (u .ports) (got .port)
+    port-as-heard none = ap (portOf side) (leaves .ports) ∙ undisturbed side (numberOf (o .answer)) (o .port) heard-by-both none ∙ heard-here
 
     -- and where the byte leaves no run open, whatever leaves
     pub idle-port-as-heard : isOpen (got .port) ≡ false → portOf side (o .unit .ports) ≡ got .port
-    idle-port-as-heard idle =
-        let there : portOf side (unitHeard u (c .port) (c .byte) w .ports) ≡ got .port
-        = ap₂ (λ (s : Side) (g : AfterByte). portOf side (withPort s (u .ports) (g .port))) at as-heard ∙ port-put side (u .ports) (got .port) in
-        ap (portOf side) (leaves .ports) ∙ idle-stays side (numberOf (o .answer)) (o .port) (unitHeard u (c .port) (c .byte) w .ports) (ap isOpen there ∙ idle) ∙ there
+    idle-port-as-heard idle = ap (portOf side) (leaves .ports) ∙ idle-stays side (numberOf (o .answer)) (o .port) heard-by-both (ap isOpen heard-here ∙ idle) ∙ heard-here
 
     pub message-as-heard : messageOf side (o .world) ≡ got .message
     message-as-heard =
-        ap (ofSide side) (leaves .stored) ∙ ap₂ (λ (s : Side) (g : AfterByte). ofSide side (put s (w .buffers .messages) (g .message))) at as-heard
-        ∙ put-there side (w .buffers .messages) (got .message)
+        ap (ofSide side) (leaves .stored ∙ sym (heard-of-one u (c .port) (c .byte) w fits .1))
+        ∙ ap₂ (λ (s : Side) (g : AfterByte). ofSide side (put s (w .buffers .messages) (g .message))) at as-heard ∙ put-there side (w .buffers .messages) (got .message)
 
     message-long : length (messageOf side (o .world)) ≡ length message
     message-long = ap length message-as-heard ∙ heard-long (largestMessage (u .limit)) (portOf side (u .ports)) (c .byte) message
 
-  -- on the other
+  -- on the other or on none, served or refused
   module _ (there : c .port ≡ numberOfSide side → ⊥) where
-    apart-from : sideOf (c .port) ≡ side → ⊥
-    apart-from = other-side-named side (c .port) (suits .1) there
+    heard-elsewhere : (portOf side heard-by-both ≡ portOf side (u .ports)) × (ofSide side (heardMessages u (c .port) (c .byte) w) ≡ messageOf side w)
+    unfolding judgeOf receivedOf
+    heard-elsewhere = by (stepFit u (c .port) (lengthsOf w)) refl
+      where
+        by : (f : Fit) → stepFit u (c .port) (lengthsOf w) ≡ f
+            → let at = sideOf (c .port) in
+            let j = unless f u (w .buffers .messages) (amongBoth at (w .buffers .messages) (receivedOf u at (c .byte) (messageOf at w))) in
+            (portOf side (j .unit .ports) ≡ portOf side (u .ports)) × (ofSide side (j .message) ≡ messageOf side w)
+        by (Unfit answer) e = (refl, refl)
+        by Fits e =
+            let apart = other-side-named side (c .port) (a-served-record-is-sound u (c .port) (lengthsOf w) e .port) there in
+            (other-port side (sideOf (c .port)) (u .ports) _ apart, other-message side (sideOf (c .port)) (w .buffers .messages) _ apart)
 
     pub port-as-it-was : SendsNothingOn side o → portOf side (o .unit .ports) ≡ portOf side (u .ports)
-    port-as-it-was none =
-        ap (portOf side) (leaves .ports) ∙ undisturbed side (numberOf (o .answer)) (o .port) (unitHeard u (c .port) (c .byte) w .ports) none
-        ∙ other-port side (sideOf (c .port)) (u .ports) _ apart-from
+    port-as-it-was none = ap (portOf side) (leaves .ports) ∙ undisturbed side (numberOf (o .answer)) (o .port) heard-by-both none ∙ heard-elsewhere .0
 
     pub idle-port-as-it-was : isOpen (portOf side (u .ports)) ≡ false → portOf side (o .unit .ports) ≡ portOf side (u .ports)
     idle-port-as-it-was idle =
-        let there : portOf side (unitHeard u (c .port) (c .byte) w .ports) ≡ portOf side (u .ports) = other-port side (sideOf (c .port)) (u .ports) _ apart-from in
-        ap (portOf side) (leaves .ports) ∙ idle-stays side (numberOf (o .answer)) (o .port) (unitHeard u (c .port) (c .byte) w .ports) (ap isOpen there ∙ idle) ∙ there
+        ap (portOf side) (leaves .ports) ∙ idle-stays side (numberOf (o .answer)) (o .port) heard-by-both (ap isOpen (heard-elsewhere .0) ∙ idle) ∙ heard-elsewhere .0
 
     pub message-as-it-was : messageOf side (o .world) ≡ message
-    message-as-it-was =
-        ap (ofSide side) (leaves .stored) ∙ other-message side (sideOf (c .port)) (w .buffers .messages) _ apart-from ∙ put-there side (c .lent .buffers .messages) message
+    message-as-it-was = ap (ofSide side) (leaves .stored) ∙ heard-elsewhere .1 ∙ put-there side (c .lent .buffers .messages) message
 
 -- ---- along the calls
 
@@ -307,7 +315,7 @@ module _ (side : Side) (c : Call) (h : Heard) where
 
   -- one call more before others
   module _ (d : Call) (calls : List Call) (u : Unit) (message : List ℕ) (receiver : Receiver) (largest : ℕ) (most : largest ≡ largestMessage (u .limit))
-      (port : portOf side (u .ports) ≡ Hearing receiver) (serves : Serves u) (suits : Suits side u (length message) d) (none : SendsNothingOn side (callOn side u message d)) where
+      (port : portOf side (u .ports) ≡ Hearing receiver) (serves : Serves u) (suits : isOn side d ≡ true → Suits side u (length message) d) (none : SendsNothingOn side (callOn side u message d)) where
     abbrev one : Outcome
     one = callOn side u message d
 
@@ -334,24 +342,24 @@ module _ (side : Side) (c : Call) (h : Heard) where
     one-more after true on k =
         let at = eqb-true (d .port) (numberOfSide side) on in
         let next = receiveOf largest receiver (d .byte) message in
-        let as-line : got side u message d serves suits ≡ record { port = Hearing (next .receiver); heard = next .heard; message = next .message }
+        let as-line : got side u message d ≡ record { port = Hearing (next .receiver); heard = next .heard; message = next .message }
         = ap₂ (λ (p : Port) (n : ℕ). hearOf n p (d .byte) message) port (sym most) in
         let quiet : next .heard ≡ heard.Taken = ap (first-or h) k in
-        let stored : kept ≡ next .message = message-as-heard side u message d serves suits at ∙ ap (λ (g : AfterByte). g .message) as-line in
+        let stored : kept ≡ next .message = message-as-heard side u message d serves (suits on) at ∙ ap (λ (g : AfterByte). g .message) as-line in
         let open-port : portOf side (one .unit .ports) ≡ Hearing (next .receiver)
-        = port-as-heard side u message d serves suits at none ∙ ap (λ (g : AfterByte). g .port) as-line in
+        = port-as-heard side u message d serves (suits on) at none ∙ ap (λ (g : AfterByte). g .port) as-line in
         let taken : one .answer ≡ Taken
-        = ap (λ (x : Outcome). x .answer) (served side u message d serves suits at)
-        ∙ ap (λ (x : Heard). comesTo (withPorts u (withPort side (u .ports) (got side u message d serves suits .port))) side x (d .sending) (lentTo side (got side u message d serves suits .message) d) .answer)
+        = ap (λ (x : Outcome). x .answer) (served side u message d serves (suits on) at)
+        ∙ ap (λ (x : Heard). comesTo (withPorts u (withPort side (u .ports) (got side u message d .port))) side x (d .sending) (lentTo side (got side u message d .message) d) .answer)
         (ap (λ (g : AfterByte). g .heard) as-line ∙ quiet) in
         ap₂ (answering true) taken
-        (after (next .receiver) (message-long side u message d serves suits at) open-port
+        (after (next .receiver) (message-long side u message d serves (suits on) at) open-port
         (ap (λ l. feedOf largest (next .receiver) (bytesOn side calls ++ (c .byte ∷ [])) l .heard) stored ∙ ap but-first k)
         ∙ ap (λ l. let f = feedOf largest (next .receiver) (bytesOn side calls ++ (c .byte ∷ [])) l in delivering (length (bytesOn side calls)) (closing met-last (f .receiver) (f .message))) stored)
     one-more after false off k =
         let there = eqb-false (d .port) (numberOfSide side) off in
-        let stored : kept ≡ message = message-as-it-was side u message d serves suits there in
-        after receiver (ap length stored) (port-as-it-was side u message d serves suits there none ∙ port)
+        let stored : kept ≡ message = message-as-it-was side u message d there in
+        after receiver (ap length stored) (port-as-it-was side u message d there none ∙ port)
         (ap (λ l. feedOf largest receiver (bytesOn side calls ++ (c .byte ∷ [])) l .heard) stored ∙ k)
         ∙ ap (λ l. let f = feedOf largest receiver (bytesOn side calls ++ (c .byte ∷ [])) l in delivering (length (bytesOn side calls)) (closing met-last (f .receiver) (f .message))) stored
 
@@ -374,7 +382,7 @@ module _ (side : Side) (c : Call) (h : Heard) where
       let same = a-call-keeps-the-same side u message d in
       one-more d calls u message receiver largest most port serves (all .0) (none .0)
       (λ r size is.
-      all-but-the-last calls (o .unit) (messageOf side (o .world)) r largest (most ∙ ap largestMessage (sym (same .1))) is (still-serves side u message d serves (all .0))
+      all-but-the-last calls (o .unit) (messageOf side (o .world)) r largest (most ∙ ap largestMessage (sym (same .1))) is (still-serves side u message d serves)
       (subst (λ n. AllSuit side (o .unit) n calls) (sym size) (all-suit-still side u (o .unit) (length message) calls same (all .1)))
       (subst (λ n. Suits side (o .unit) n c) (sym size) (suits-still side u (o .unit) (length message) c same last)) here (none .1))
       (isOn side d) refl e

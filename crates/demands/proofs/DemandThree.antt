@@ -59,9 +59,8 @@ use Rattle.demands.specs.Calls.{Call, lentTo, fedOf, delivering, openedO
 use Rattle.demands.specs.Orders.{Way, met, Sends, withItsMessage, leftBy, sentBy, replies, cameTo}
 use Rattle.demands.proofs.Cases.{unitHeard, worldHeard, of-any-call}
 use Rattle.demands.proofs.DemandOne.{what-every-answer-leaves}
-use Rattle.demands.proofs.DemandTwo.{above-every-message}
 use Rattle.demands.proofs.Ranges.{ends-by, a-range-inside-names-its-FRAM}
-use Rattle.demands.proofs.Along.{a-call-keeps-the-counts-low}
+use Rattle.demands.proofs.Along.{above-every-message, a-call-keeps-the-counts-low}
 use Rattle.demands.proofs.Orders.{no-longer, a-sent-command-is-carried-out, a-command-that-is-done-sends-its-data}
 
 -- what is kept from call to call: right sums, and the memory's length

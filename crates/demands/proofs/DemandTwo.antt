@@ -47,7 +47,6 @@ use Rattle.ports.specs.Sides.{numberOfSide, Both, both, ofSide, put}
 use Rattle.ports.specs.Ports.{answeredOn, portOf, withPort, hearOf, AfterByte, closesSome, isOpen, isSending, lostCount}
 use Rattle.ports.proofs.Sides.{put-there}
 use Rattle.judging.specs.declared.Unit.{Unit}
-use Rattle.judging.specs.Fitting.{largestCount}
 use Rattle.judging.specs.Judging.{largestMessage, dropped, soundOf, commandOn, runOf, verdictOf, withPorts}
 use Rattle.judging.proofs.Ways.{an-oversize}
 use Rattle.judging.proofs.Serving.{a-served-step-fits, a-served-record-is-sound}
@@ -68,9 +67,6 @@ use Rattle.demands.proofs.Along.{Same, a-call-keeps-the-same, the-same-
 -- what the limit says of lengths
 no-longer-than-any : (limit : ℕ) → isLimit limit ≡ true → largestMessage limit ≤ messageSize
 no-longer-than-any limit limited = omega (arith, within-both-ends limit limited .1)
-
-pub above-every-message : (limit : ℕ) → isLimit limit ≡ true → largestMessage limit < largestCount
-above-every-message limit limited = omega (arith, within-both-ends limit limited .1)
 
 at-least-a-PING : (limit : ℕ) → isLimit limit ≡ true → 17 ≤ limit
 at-least-a-PING limit limited = omega (arith, within-both-ends limit limited .0)
@@ -103,8 +99,8 @@ module _ (side : Side) (u : Unit) (message : List ℕ) (calls : List Call) (c : 
       ∙ ap₂ (λ (l : List ℕ) (g : Feed). delivering (length l) (comesTo (withPorts there (withPort side (there .ports) (Hearing (g .receiver)))) side h (c .sending) (lentTo side (g .message) c))) is whole
       ∙ ap (λ (r : Receiver). delivering (length run) (comesTo (withPorts there (withPort side (there .ports) (Hearing r))) side h (c .sending) (lentTo side (f .message) c))) opens
 
-  -- Demand 2, for any bytes at all between two FENDs on a port. All are taken, and the closing FEND judges the run as it unpacks: empty, framing,
-  -- or so many bytes of message as its count says.
+  -- Demand 2, for any bytes at all between two FENDs on a port, by calls that are served and as long as no reply leaves on it. All are taken, and the closing
+  -- FEND judges the run as it unpacks: empty, framing, or so many bytes of message as its count says.
   pub any-run-is-judged-as-it-unpacks : NoFend run
       → fedOf side u message calls c
       ≡ delivering (length run)
@@ -151,7 +147,7 @@ pub a-served-FEND-opens-a-run : (side : Side) (u : Unit) (message : List ℕ) (c
     → portOf side (callOn side u message c .unit .ports) ≡ Hearing opened
 unfolding isOpen closedOf
 a-served-FEND-opens-a-run side u message c serves suits here ends =
-    let opens : got side u message c serves suits .port ≡ Hearing opened
+    let opens : got side u message c .port ≡ Hearing opened
     = ap (λ (n : ℕ). hearOf (largestMessage (u .limit)) (portOf side (u .ports)) n message .port) ends ∙ a-FEND-opens (largestMessage (u .limit)) (portOf side (u .ports)) message .0 in
     idle-port-as-heard side u message c serves suits here (ap isOpen opens) ∙ opens
 
@@ -163,7 +159,7 @@ module _ (side : Side) (c : Call) (body start : List ℕ) (x : Unit → Outcome)
       → Suits side v (length kept) c → NoReplyOn side v kept part → bytesOn side part ≡ body
       → fedOf side v kept part c ≡ delivering (length body) (x (reachedBy side v kept part))
 
-  module _ (d : Call) (calls : List Call) (u : Unit) (message : List ℕ) (idle : Idle (portOf side (u .ports))) (serves : Serves u) (suits : Suits side u (length message) d)
+  module _ (d : Call) (calls : List Call) (u : Unit) (message : List ℕ) (idle : Idle (portOf side (u .ports))) (serves : Serves u) (suits : isOn side d ≡ true → Suits side u (length message) d)
       (none : SendsNothingOn side (callOn side u message d)) where
     abbrev one : Outcome
     one = callOn side u message d
@@ -183,20 +179,20 @@ module _ (side : Side) (c : Call) (body start : List ℕ) (x : Unit → Outcome)
         let ends : d .byte ≡ fend = ap (λ l. getD l 0 0) e in
         let port = portOf side (u .ports) in
         let largest = largestMessage (u .limit) in
-        let as-FEND : got side u message d serves suits ≡ hearOf largest port fend message = ap (λ (n : ℕ). hearOf largest port n message) ends in
+        let as-FEND : got side u message d ≡ hearOf largest port fend message = ap (λ (n : ℕ). hearOf largest port n message) ends in
         let open-now = a-FEND-opens largest port message in
         let taken : one .answer ≡ Taken
         = ap (λ (o : Outcome). o .answer)
-        (served side u message d serves suits at
+        (served side u message d serves (suits on) at
         ∙ ap (λ (g : AfterByte). comesTo (withPorts u (withPort side (u .ports) (g .port))) side (g .heard) (d .sending) (lentTo side (g .message) d)) as-FEND
         ∙ quietly (withPorts u (withPort side (u .ports) (hearOf largest port fend message .port))) side (d .sending) (lentTo side (hearOf largest port fend message .message) d)
         (hearOf largest port fend message .heard) (closes-nothing largest port message idle)) in
         ap₂ (answering true) taken
-        (opens (message-as-heard side u message d serves suits at ∙ ap (λ (g : AfterByte). g .message) as-FEND ∙ open-now .1)
-        (a-served-FEND-opens-a-run side u message d serves suits at ends) (ap (drop 1) e))
+        (opens (message-as-heard side u message d serves (suits on) at ∙ ap (λ (g : AfterByte). g .message) as-FEND ∙ open-now .1)
+        (a-served-FEND-opens-a-run side u message d serves (suits on) at ends) (ap (drop 1) e))
     one-more false off e opens goes =
         let there = eqb-false (d .port) (numberOfSide side) off in
-        goes (message-as-it-was side u message d serves suits there) (ap isOpen (port-as-it-was side u message d serves suits there none) ∙ idle) e
+        goes (message-as-it-was side u message d there) (ap isOpen (port-as-it-was side u message d there none) ∙ idle) e
 
   with-its-FEND : (calls : List Call) (u : Unit) (message : List ℕ) → message ≡ start → Idle (portOf side (u .ports)) → Serves u → AllSuit side u (length message) calls
       → Suits side u (length message) c → NoReplyOn side u message calls → bytesOn side calls ≡ fend ∷ body → Then u
@@ -206,7 +202,7 @@ module _ (side : Side) (c : Call) (body start : List ℕ) (x : Unit → Outcome)
       let o = callOn side u message d in
       let kept = messageOf side (o .world) in
       let same = a-call-keeps-the-same side u message d in
-      let goes-on = still-serves side u message d serves (all .0) in
+      let goes-on = still-serves side u message d serves in
       one-more d calls u message idle serves (all .0) (none .0) (isOn side d) refl e
       (λ stored on f. then calls (o .unit) kept (stored ∙ as-it-was) same on goes-on
       (subst (λ n. AllSuit side (o .unit) n calls) (sym (ap length stored)) (all-suit-still side u (o .unit) (length message) calls same (all .1)))
@@ -305,7 +301,8 @@ module _ (side : Side) (u : Unit) (message : List ℕ) (calls : List Call) (c : 
   abbrev open-there : Unit
   open-there = openedOn side (reachedBy side u message calls)
 
-  -- A message of more than limit + 5 bytes, whatever it says, is dropped for its length. Its first limit + 5 bytes stand in the message buffer.
+  -- A message of more than limit + 5 bytes, whatever it says, is dropped for its length, by calls that are served and as long as no reply leaves on its port. Its
+  -- first limit + 5 bytes stand in the message buffer.
   module _ (m : List ℕ) (long : largestMessage (u .limit) < length m) where
     abbrev most : ℕ
     most = largestMessage (u .limit)
@@ -349,8 +346,8 @@ module _ (side : Side) (u : Unit) (message : List ℕ) (calls : List Call) (c : 
     judgedThere = comesTo open-there side (heard.Message (length m)) (c .sending) (lentTo side (m ++ drop (length m) message) c)
 
     -- Demand 2, the round trip at the unit. Packed, it comes after any FEND on a port, by calls that lend what they like in the right lengths, into
-    -- a message buffer that nobody else alters; bytes of the other port come between as they like, as long as no reply leaves on this one. Every byte
-    -- of it but the last FEND is taken, and that one judges the message as it was packed, with its length as the count.
+    -- a message buffer that nobody else alters; calls on the other port or on none come between as they like, served or refused, as long as no reply
+    -- leaves on this one. Every byte of it but the last FEND is taken, and that one judges the message as it was packed, with its length as the count.
     pub after-any-FEND-a-packed-message-is-judged : portOf side (u .ports) ≡ Hearing opened → bytesOn side calls ≡ bodyOf m
         → fedOf side u message calls c ≡ delivering (length (bodyOf m)) judgedThere
     after-any-FEND-a-packed-message-is-judged e is = body-judged side u message calls c (bodyOf m) e serves is ends here all last none m refl some within

@@ -121,14 +121,14 @@ a-byte-of-a-run-thrown-away side u message c serves suits here count port =
 
 -- the calls before the FEND of such a run, of either port
 module _ (side : Side) (c : Call) where
-  one-thrown : (d : Call) (u : Unit) (message : List ℕ) (count : ℕ) → Serves u → Suits side u (length message) d → portOf side (u .ports) ≡ Throwing count
+  one-thrown : (d : Call) (u : Unit) (message : List ℕ) (count : ℕ) → Serves u → (isOn side d ≡ true → Suits side u (length message) d) → portOf side (u .ports) ≡ Throwing count
       → (b : Bool) → isOn side d ≡ b → (b ≡ true → d .byte ≡ fend → ⊥)
       → let o = callOn side u message d in
       (portOf side (o .unit .ports) ≡ Throwing count) × (messageOf side (o .world) ≡ message) × (b ≡ true → o .answer ≡ Taken)
   unfolding isOpen
   one-thrown d u message count serves suits port true on other =
       let here = eqb-true (d .port) (numberOfSide side) on in
-      let is = a-byte-of-a-run-thrown-away side u message d serves suits here count port
+      let is = a-byte-of-a-run-thrown-away side u message d serves (suits on) here count port
       ∙ ap (λ (b : Bool). outcome (withPorts u (withPort side (u .ports) (cond b (Hearing opened) (Throwing count)))) Taken (lentTo side message d)) (ne-eqb (d .byte) fend (other refl)) in (
         ap (λ (o : Outcome). portOf side (o .unit .ports)) is ∙ there side,
         ap (λ (o : Outcome). messageOf side (o .world)) is ∙ put-there side (d .lent .buffers .messages) message,
@@ -140,14 +140,14 @@ module _ (side : Side) (c : Call) where
       there One = refl
   one-thrown d u message count serves suits port false off other =
       let elsewhere = eqb-false (d .port) (numberOfSide side) off in (
-        idle-port-as-it-was side u message d serves suits elsewhere (ap isOpen port) ∙ port,
-        message-as-it-was side u message d serves suits elsewhere,
+        idle-port-as-it-was side u message d elsewhere (ap isOpen port) ∙ port,
+        message-as-it-was side u message d elsewhere,
         (λ e. let z : false ≡ true = e in absurd (false≢true z)),
       )
 
-  -- A run is being thrown away on a port. Whatever bytes but FEND come on it, and whatever comes on the other port, replies that leave on this one included:
-  -- each of its bytes answers 0, its message buffer is as it was, and it is still thrown away with its count; then its FEND answers 0, changes nothing that
-  -- is lent, and opens the next run.
+  -- A run is being thrown away on a port. Whatever bytes but FEND come on it by calls that are served, and whatever comes on the other port, served or refused,
+  -- replies that leave on this one included: each of its bytes answers 0, its message buffer is as it was, and it is still thrown away with its count; then its
+  -- FEND answers 0, changes nothing that is lent, and opens the next run.
   pub a-run-thrown-away-up-to-its-FEND : (calls : List Call) (u : Unit) (message : List ℕ) (count : ℕ) → portOf side (u .ports) ≡ Throwing count → Serves u
       → AllSuit side u (length message) calls → Suits side u (length message) c → c .port ≡ numberOfSide side → c .byte ≡ fend → NoFend (bytesOn side calls)
       → (portOf side (reachedBy side u message calls .ports) ≡ Throwing count)
@@ -164,7 +164,7 @@ module _ (side : Side) (c : Call) where
       let one = one-thrown d u message count serves (all .0) port (isOn side d) refl (first-of (isOn side d) none) in
       let kept = messageOf side (o .world) in
       let stored : kept ≡ message = one .1 in
-      let rest = a-run-thrown-away-up-to-its-FEND calls (o .unit) kept count (one .0) (still-serves side u message d serves (all .0))
+      let rest = a-run-thrown-away-up-to-its-FEND calls (o .unit) kept count (one .0) (still-serves side u message d serves)
       (subst (λ n. AllSuit side (o .unit) n calls) (sym (ap length stored)) (all-suit-still side u (o .unit) (length message) calls same (all .1)))
       (subst (λ n. Suits side (o .unit) n c) (sym (ap length stored)) (suits-still side u (o .unit) (length message) c same last)) here ends (rest-of (isOn side d) none) in (
         rest .0,

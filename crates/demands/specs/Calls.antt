@@ -65,7 +65,7 @@ abbrev pub answering : Bool → Answer → Fed → Fed
 answering true answer rest = record { answers = answer ∷ rest .answers; last = rest .last }
 answering false answer rest = rest
 
--- Calls one after the other on either port, and one more: the unit and the message buffer of this port pass from call to call.
+-- Calls one after the other on any port, and one more: the unit and the message buffer of this port pass from call to call.
 abbrev pub fedOf : Side → Unit → List ℕ → List Call → Call → Fed
 fedOf side u message [] c = record { answers = []; last = callOn side u message c }
 fedOf side u message (d ∷ calls) c =
@@ -134,9 +134,10 @@ abbrev pub Suits : Side → Unit → ℕ → Call → Type 0
 Suits side u size c =
     (lengthsFit (u .strap) (framsAsSetUp u (lentLengths side size c)) (lentLengths side size c) Fits ≡ Fits) × (c .port ≤ 1)
 
+-- Each call on this port does; one on the other, or on none, may lend anything and be refused.
 abbrev pub AllSuit : Side → Unit → ℕ → List Call → Type 0
 AllSuit side u size [] = Prim.Unit {0}
-AllSuit side u size (d ∷ calls) = Suits side u size d × AllSuit side u size calls
+AllSuit side u size (d ∷ calls) = (isOn side d ≡ true → Suits side u size d) × AllSuit side u size calls
 
 -- A record that neither 26 nor 29 refuses: its counts are at most 1,034, and its limit 260 to 1,028.
 abbrev pub Serves : Unit → Type 0

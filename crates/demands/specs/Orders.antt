@@ -22,7 +22,7 @@ use Rattle.commanding.specs.World.{World, replyOf, Outcome, withEdac, withFrams
 use Rattle.demands.specs.Calls.{Call, lentTo, fedOf, reachedBy, bytesOn, NoReplyOn, Suits, AllSuit, Serves, Idle, Bytes}
 
 -- The way that a command takes to a unit: the port it comes in on, the unit and the message buffer of that port before its first byte, the address it is
--- for and the port on which that is answered, and the calls, on either port, up to the one that closes it.
+-- for and the port on which that is answered, and the calls, on any port, up to the one that closes it.
 pub record Way : Type 0 where
   pub side : Side
   pub unit : Unit
@@ -36,7 +36,8 @@ abbrev pub met : Way → Unit
 met way = reachedBy (way .side) (way .unit) (way .message) (way .calls)
 
 -- A command with data of at most `most` bytes: sealed with its CRC, packed, and sent on a port where its address is heard, with both its FENDs, the last of
--- them by the call `c`, to a unit that has no run open there, by calls that are served, of which none but the last has a reply that leaves on this port.
+-- them by the call `c`, to a unit that has no run open there, by calls that are served; calls on the other port or on none come between, served or refused.
+-- None but the last has a reply that leaves on this port.
 pub record SendsUpTo (most : ℕ) (way : Way) (source control : ℕ) (field : List ℕ) (c : Call) : Type 0 where
   pub serves : Serves (way .unit)
   pub idle : Idle (portOf (way .side) (way .unit .ports))

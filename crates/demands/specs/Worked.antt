@@ -1,4 +1,4 @@
--- 01, "Small examples": P1 to P12, and one each for 02, T-01, T-02, T-06, T-07 and T-13, under one statement. Those that a unit can show are run on one, byte by
+-- 01, "Small examples": P1 to P12, and more for 02, T-01, T-02, T-06, T-07 and T-13, under one statement. Those that a unit can show are run on one, byte by
 -- byte.
 -- Assumes nothing.
 use mathlib.Core.Path.{_≡_}
@@ -80,8 +80,8 @@ shownBy edac bytes = shownAt 1028 edac bytes
 abbrev pub zeros : List ℕ
 zeros = replicate 1536 0
 
--- The diagnostics where none moved since set-up, which shows bootloader FRAM unlocked, and where one run was dropped: channel 0x07 framing, 0x08
--- runt, 0x09 oversize.
+-- The diagnostics where none moved since set-up, which shows bootloader FRAM unlocked, and where one count moved once: on port 0 channel 0x07 framing, 0x08
+-- runt, 0x09 oversize, 0x0C a run thrown away, 0x0D a reply lost; on port 1 0x0F runt, 0x13 and 0x14.
 abbrev pub noCounts : List ℕ
 noCounts = set (replicate 31 0) 0x06 0x40
 
@@ -188,9 +188,14 @@ pub record WorkedExamples : Type 0 where
       ++ (0xC0 ∷ 0x11 ∷ 0x61 ∷ 0xA4 ∷ 0x0C ∷ 0x01 ∷ 0x00 ∷ 0x00 ∷ 0x00 ∷ 0x0D ∷ 0x00 ∷ 0x00 ∷ 0x00 ∷ 0x00 ∷ 0x14 ∷ 0x50 ∷ 0xC0 ∷ []))
       × (s .sent .at1 ≡ []) × (s .left .diagnostics ≡ onceAt 0x0C)
       × (take 4 (shownOf 1028 zeros (on 0 (0xC0 ∷ 0x41 ∷ 0x11 ∷ []) ++ on 1 (0xC0 ∷ 0x71 ∷ 0x11 ∷ 0x80 ∷ 0x76 ∷ 0xEB ∷ 0xC0 ∷ []) ++ on 0 (0x80 ∷ 0xD8 ∷ 0x6D ∷ 0xDB ∷ 0xC0 ∷ [])) .left .buffers .messages .at0) ≡ 0x41 ∷ 0x11 ∷ 0x00 ∷ 0x00 ∷ [])
-  -- The same the other way round: C0 DB stands open on port 1 while a PING to 0x41 comes on port 0 and is answered there: counted in 0x13.
+  -- The same the other way round: C0 DB stands open on port 1 while a PING to 0x41 comes on port 0 and is answered on port 1: counted in 0x13.
   pub T01-other-port : let s = shownOf 1028 zeros (on 1 (0xC0 ∷ 0xDB ∷ []) ++ on 0 (0xC0 ∷ 0x41 ∷ 0x11 ∷ 0x80 ∷ 0xD8 ∷ 0x6D ∷ 0xC0 ∷ []) ++ on 1 (0xDC ∷ 0xC0 ∷ [])) in
       (s .answers ≡ replicate 8 0 ++ (1 ∷ 0 ∷ 0 ∷ [])) × (s .left .diagnostics ≡ onceAt 0x13)
+  -- These counts move after the reply is built: with C0 DB open on port 1, DIAGNOSTIC 13 to 0x41 is answered there with 0, and its own reply moves 0x13 to 1.
+  pub T01-built-before : let s = shownOf 1028 zeros (on 1 (0xC0 ∷ 0xDB ∷ []) ++ on 0 (0xC0 ∷ 0x41 ∷ 0x11 ∷ 0x84 ∷ 0x13 ∷ 0xD2 ∷ 0x1F ∷ 0xC0 ∷ [])) in
+      (s .answers ≡ replicate 9 0 ++ (1 ∷ []))
+      × (s .sent ≡ both [] (0xC0 ∷ 0x11 ∷ 0x41 ∷ 0xA4 ∷ 0x13 ∷ 0x00 ∷ 0x00 ∷ 0x00 ∷ 0x00 ∷ 0x7A ∷ 0xC7 ∷ 0xC0 ∷ []))
+      × (s .left .diagnostics ≡ onceAt 0x13)
   -- A PING to 0x61 while port 0 is sending is done, and its reply is lost: answer 2, counted in 0x0D, and no reply buffer changes. A runt on port 1 is
   -- counted in 0x0F. On port 2 a byte is 27.
   pub T01-lost : let s = shownOf 1028 zeros (onWhile true false 0 (0xC0 ∷ 0x61 ∷ 0x11 ∷ 0x80 ∷ 0xE3 ∷ 0x6E ∷ 0xC0 ∷ [])) in
@@ -199,10 +204,11 @@ pub record WorkedExamples : Type 0 where
       × (shownOf 1028 zeros (on 1 (0xC0 ∷ 0x01 ∷ 0xC0 ∷ [])) .left .diagnostics ≡ onceAt 0x0F)
       × (shownOf 1028 zeros (on 2 (0xC0 ∷ [])) .answers ≡ 27 ∷ [])
   -- A command with code 0x05 to 0x51 while port 1 is sending is refused, and its NACK is lost: answer 4, counted in 0x14. A DIAGNOSTIC that loses its own
-  -- reply is done, and counted.
+  -- reply is done, and counted in 0x0D.
   pub T01-lost-NACK : (shownOf 1028 zeros (onWhile false true 1 (0xC0 ∷ 0x51 ∷ 0x11 ∷ 0x85 ∷ 0xE0 ∷ 0xBF ∷ 0xC0 ∷ [])) .answers ≡ replicate 6 0 ++ (4 ∷ []))
       × (shownOf 1028 zeros (onWhile false true 1 (0xC0 ∷ 0x51 ∷ 0x11 ∷ 0x85 ∷ 0xE0 ∷ 0xBF ∷ 0xC0 ∷ [])) .left .diagnostics ≡ onceAt 0x14)
       × (shownOf 1028 zeros (onWhile true true 0 (0xC0 ∷ 0x61 ∷ 0x11 ∷ 0x84 ∷ 0x0D ∷ 0x7E ∷ 0x69 ∷ 0xC0 ∷ [])) .answers ≡ replicate 7 0 ++ (2 ∷ []))
+      × (shownOf 1028 zeros (onWhile true true 0 (0xC0 ∷ 0x61 ∷ 0x11 ∷ 0x84 ∷ 0x0D ∷ 0x7E ∷ 0x69 ∷ 0xC0 ∷ [])) .left .diagnostics ≡ onceAt 0x0D)
   -- 02, T-02: SPEED holds 100.0. WRITE FILE 15 01 02 03 04: answer 1, the reply shows SPEED as it is, and nothing is stored. WRITE EDAC
   -- 52 00 AA BB CC DD: answer 1, the two bytes before SPEED are stored, and the reply shows those and SPEED's first two.
   pub T02 : Shows withSpeed

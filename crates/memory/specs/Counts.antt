@@ -1,4 +1,4 @@
--- Diagnostics: 31 values, of which four count dropped runs. 01, "One byte in, one answer out". Assumes nothing.
+-- Diagnostics: 31 values, of which some are counts (those of a port: the room ports). 01, "One byte in, one answer out"; 02, T-01. Assumes nothing.
 use Prim.Native.Nat.{ℕ, _+_, min}
 use mathlib.Core.List.{List}
 use lib.ListN.{getD, set}
