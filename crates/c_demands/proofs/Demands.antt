@@ -53,7 +53,7 @@ use Rattle.face.specs.Records.{modeOut, placeIn, portIn, lockIn, lockOut, sendi
 use Rattle.face.proofs.Settled.{a-record-comes-back}
 use Rattle.demands.specs.Calls.{callOn, isOn, Fed, answering, fedOf, reachedBy, bytesOn, NoReplyOn, openedOn, delivering, Suits, AllSuit, Serves, Idle, Lending, its-memory, Own, own, ownOf, calledOf, Right, Inside}
 use Rattle.demands.specs.Locking.{locks}
-use Rattle.demands.specs.Leaving.{heardPorts, heardMessages, hasReply, isUnsaid, countsAfter, shownLocked, portsAfter, SetUpRefusal}
+use Rattle.demands.specs.Leaving.{heardPorts, heardMessages, hasReply, isUnsaid, isCommanded, countsAfter, shownLocked, portsAfter, SetUpRefusal}
 use Rattle.demands.specs.Orders.{Way, met, SendsUpTo, Sends, withItsMessage, leftBy, sentBy, replies, doneAnswer, cameTo}
 use Rattle.demands.proofs.Cases.{a-refused-set-up-has-its-number, a-refused-set-up-is-no-0}
 use Rattle.demands.proofs.DemandOne.{what-every-answer-leaves, what-set-up-leaves}
@@ -155,6 +155,7 @@ module _ (u : WheelUnit) (c : FromC) (steps : Steps u c) where
             ap (λ (w : World). replyOf s w) left ∙ leaves .reply s
             ∙ sym (ap₂ (λ (n : ℕ) (w : World). begun (replyOf s (c .lent)) (take n (replyOf s w)))
             (ap₂ (λ (p n : ℕ). cond (eqb (numberOfSide s) p) n 0) port-number size) left);
+        ours = λ one. leaves .ours (ap isCommanded (sym number) ∙ one);
         leaving = λ loud.
             let all = leaves .leaving (ap hasReply (sym number) ∙ loud) in (all .0 ∙ ap On (sym port), all .1, ap (λ (s : Side). isSending s busy) port ∙ all .2);
         losing = λ hushed. leaves .losing (ap isUnsaid (sym number) ∙ hushed);
@@ -369,10 +370,11 @@ set-up-so strap limit locked w none = apart (setUpFit strap limit (lengthsOf w))
     apart (Unfit answer) e z = absurd (a-refused-set-up-is-no-0 limit (numberOf answer) (a-refused-set-up-has-its-number strap limit (lengthsOf w) answer e) z)
 
 -- Demand 1, of `wheel_set_up`: 0 computes all sums, writes the low byte of diagnostic 0x06 and changes nothing else that is lent; 20 to 25 and 29
--- change nothing at all. Neither costs anything.
+-- change nothing at all. Neither costs anything, and neither sends anything.
 pub what-a-set-up-from-C-leaves : (strap limit locked : ℕ) (lent : World) (back : WheelStepped) (after : World) → SetsUp strap limit locked lent back after
     → (back .answer ≡ 0 → (back .unit ≡ unitOut (somebody strap limit (lockIn locked) lent)) × (after ≡ preparedFor (lockIn locked) lent))
     × ((back .answer ≡ 0 → ⊥) → SetUpRefusal limit (back .answer) × (back .unit ≡ unitOut nobody) × (after ≡ lent)) × (back .cost ≡ 0)
+    × (back .sent ≡ 0) × (back .port ≡ 0)
 what-a-set-up-from-C-leaves strap limit locked lent back after sets-up =
     let leaves = what-set-up-leaves strap limit (lockIn locked) lent in
     let o = setUpOf strap limit (lockIn locked) lent in
@@ -384,6 +386,8 @@ what-a-set-up-from-C-leaves strap limit locked lent back after sets-up =
           let all = leaves .refused (λ none. other (number ∙ none)) in
           (subst (SetUpRefusal limit) (sym number) (all .0), unit ∙ ap unitOut (all .1), left ∙ all .2)),
       ap (λ (r : Returned). r .stepped .cost) sets-up ∙ a-set-up-costs-nothing strap limit (lockIn locked) lent,
+      ap (λ (r : Returned). r .stepped .sent) sets-up ∙ leaves .sends-nothing .0,
+      ap (λ (r : Returned). r .stepped .port) sets-up ∙ ap numberOfSide (leaves .sends-nothing .1),
     )
 
 -- `wheel_set_up` answered 0. After any calls of `wheel_step`, each with the record that the one before gave back, and with FRAMs and sums

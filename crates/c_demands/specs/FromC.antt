@@ -13,7 +13,7 @@ use Rattle.carrying.specs.Held.{Frams}
 use Rattle.file_commands.specs.WriteFile.{judgeListOf, storage, storeListOf}
 use Rattle.ports.specs.declared.Side.{Side}
 use Rattle.ports.specs.Sides.{sideOf, numberOfSide, ofSide}
-use Rattle.ports.specs.declared.Answered.the-variants.{On}
+use Rattle.ports.specs.declared.Answered.the-variants.{On, Nowhere}
 use Rattle.ports.specs.Ports.{answeredOn, isSending}
 use Rattle.replying.specs.Replies.{codeOf, polls}
 use Rattle.commanding.specs.World.{World, messageOf, replyOf}
@@ -26,7 +26,7 @@ use Rattle.face.specs.Records.{lockIn, lockOut, sendingIn, unitIn, unitOut, ret
 use Rattle.demands.specs.Calls.{Call, isOn, bytesOn}
 use Rattle.demands.specs.Orders.{Way}
 use Rattle.demands.specs.Locking.{locks}
-use Rattle.demands.specs.Leaving.{heardPorts, heardMessages, hasReply, isUnsaid, countsAfter, shownLocked, portsAfter}
+use Rattle.demands.specs.Leaving.{heardPorts, heardMessages, hasReply, isUnsaid, isCommanded, countsAfter, shownLocked, portsAfter}
 
 -- A call of `wheel_step`, apart from its record: the port, the byte, whether each port was sending, what was lent, what came back, and what was lent as
 -- the call left it.
@@ -80,6 +80,9 @@ pub record LeavesInC (u : WheelUnit) (c : FromC) : Type 0 where
   -- What is to be sent is the first part of the reply buffer of its port; the rest of it, and all of the other, is as it was.
   pub reply : (side : Side)
       → replyOf side (c .left) ≡ begun (replyOf side (c .lent)) (take (cond (eqb (numberOfSide side) (c .back .port)) (c .back .sent) 0) (replyOf side (c .left)))
+  -- 1 to 4 and 10: the message is for an address that is heard on the byte's port.
+  pub ours : isCommanded (c .back .answer) ≡ true
+      → answeredOn (u .strap) (sideOf (c .port)) (getD (ofSide (sideOf (c .port)) (heardMessages (unitIn u) (c .port) (c .byte) (c .lent))) 0 0) ≡ Nowhere → ⊥
   -- 1 and 3: poll is set, and the reply is to be sent on the port that the address names, which was not sending. 2 and 4 with poll set: that port was
   -- sending. Where nothing is to be sent the port is 0.
   pub leaving : hasReply (c .back .answer) ≡ true

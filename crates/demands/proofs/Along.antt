@@ -117,7 +117,7 @@ other-side-named One number few other e =
     let z : Zero ≡ One = sym (simp (eq-eqb number 0 zero)) ∙ e in
     let o : _≡_ {A = ℕ} 0 1 = ap numberOfSide z in absurd (omega arith)
 
-port-put : (side : Side) (ports : Ports) (port : Port) → portOf side (withPort side ports port) ≡ port
+pub port-put : (side : Side) (ports : Ports) (port : Port) → portOf side (withPort side ports port) ≡ port
 port-put Zero ports port = refl
 port-put One ports port = refl
 

@@ -3,6 +3,7 @@
 -- outcome that `stepOf` says for every record, port, byte and lent buffers of any length. Assumes nothing.
 use mathlib.Core.Path.{_≡_, refl, sym, ap, _∙_, subst}
 use mathlib.Core.Bool.{Bool, true, false, cond, _&&_, false≢true}
+use mathlib.Core.Logic.{inl, inr}
 use mathlib.Core.List.{List}
 use Prim.Native.Nat.{ℕ, _+_, _-_, _≤_, _<_}
 use native.Mathlib.Omega.{arith}
@@ -41,7 +42,7 @@ use Rattle.commanding.specs.World.{World, messageOf, lengthsOf, Outcome, outcom
 use Rattle.commanding.specs.Commanded.{answered}
 use Rattle.unit.specs.Steps.{nobody, setUpAs, setUpOf, servedOf, stepOf}
 use Rattle.demands.specs.Locking.{locks}
-use Rattle.demands.specs.Leaving.{heardPorts, heardMessages, hasReply, isUnsaid, countsAfter, shownLocked, oneMoreLost, portsAfter, Leaves, SetUpLeaves}
+use Rattle.demands.specs.Leaving.{heardPorts, heardMessages, hasReply, isUnsaid, isCommanded, countsAfter, shownLocked, oneMoreLost, portsAfter, Leaves, SetUpRefusal, SetUpLeaves}
 use Rattle.demands.proofs.Cases.{Each, unitHeard, worldHeard, of-any-call, a-refused-step-has-its-number, a-refused-set-up-has-its-number, a-refused-set-up-is-no-0}
 use Rattle.demands.proofs.Answers.{Spoken, a-command-done, a-command-refused, left, with-no-reply, with-a-lost-reply, with-a-reply, with-nothing-fitted}
 
@@ -124,6 +125,10 @@ module _ (strap : ℕ) (side : Side) (ports : Ports) (message : List ℕ) (numbe
   ports-of-none : hasReply number ≡ false → ports ≡ portsAfter number port ports
   ports-of-none b = sym (simp b)
 
+is-heard : Answered → Bool
+is-heard (On telemetry) = true
+is-heard Nowhere = false
+
 -- a command is answered on one port
 port-told : Answered → Side → Side
 port-told (On telemetry) otherwise = telemetry
@@ -139,6 +144,9 @@ no-reply-from-5 number high = simp (ne-eqb number 1 (λ e. omega arith), ne-eqb 
 
 no-silence-from-5 : (number : ℕ) → 5 ≤ number → isUnsaid number ≡ false
 no-silence-from-5 number high = simp (ne-eqb number 2 (λ e. omega arith), ne-eqb number 4 (λ e. omega arith))
+
+no-command-from-5 : (number : ℕ) → 5 ≤ number → (number ≡ 10 → ⊥) → isCommanded number ≡ false
+no-command-from-5 number high other = simp (no-reply-from-5 number high, no-silence-from-5 number high, ne-eqb number 10 other)
 
 -- ---- each case of a call that is not refused
 
@@ -157,10 +165,10 @@ module _ (u : Unit) (number : ℕ) (sending : Sending) (w : World) (ports : Port
   message = ofSide side messages
 
   -- an answer that counts and sends nothing
-  quiet : (answer : Answer) → numberOf answer < 20 → (leb 5 (numberOf answer) && leb (numberOf answer) 8) ≡ false → hasReply (numberOf answer) ≡ false
-      → isUnsaid (numberOf answer) ≡ false → sentOf answer ≡ 0
+  quiet : (answer : Answer) → numberOf answer < 20 → (leb 5 (numberOf answer) && leb (numberOf answer) 8) ≡ false → isCommanded (numberOf answer) ≡ false
+      → hasReply (numberOf answer) ≡ false → isUnsaid (numberOf answer) ≡ false → sentOf answer ≡ 0
       → Leaves u number sending ports messages false w (outcome next answer heard)
-  quiet answer low a b c silent =
+  quiet answer low a none b c silent =
       record {
         nothing-by-a-refused-call = λ high. absurd (omega arith);
         memory-unless-a-command-is-done = λ _ _. (refl, refl, refl, refl);
@@ -169,6 +177,7 @@ module _ (u : Unit) (number : ℕ) (sending : Sending) (w : World) (ports : Port
         ports = ports-of-none (u .strap) side ports message (numberOf answer) Zero (w .diagnostics) b;
         stored = refl;
         reply = λ s. no-reply-written s Zero (w .buffers .replies) (sentOf answer) silent;
+        ours = λ one. absurd (false≢true (sym none ∙ one));
         leaving = λ loud. absurd (false≢true (sym (b) ∙ loud));
         losing = λ hushed. absurd (false≢true (sym (c) ∙ hushed));
         on-no-port = λ _. refl;
@@ -190,6 +199,7 @@ module _ (u : Unit) (number : ℕ) (sending : Sending) (w : World) (ports : Port
         ports = ports-of-none (u .strap) side ports message (numberOf answer) Zero (w .diagnostics) (no-reply-from-5 (numberOf answer) (omega arith));
         stored = refl;
         reply = λ s. no-reply-written s Zero (w .buffers .replies) (sentOf answer) silent;
+        ours = λ one. absurd (false≢true (sym (no-command-from-5 (numberOf answer) (omega arith) (λ ten. omega arith)) ∙ one));
         leaving = λ loud. absurd (false≢true (sym (no-reply-from-5 (numberOf answer) (omega arith)) ∙ loud));
         losing = λ hushed. absurd (false≢true (sym (no-silence-from-5 (numberOf answer) (omega arith)) ∙ hushed));
         on-no-port = λ _. refl;
@@ -207,6 +217,13 @@ module _ (u : Unit) (number : ℕ) (sending : Sending) (w : World) (ports : Port
 
     abbrev Leaving : Outcome → Type 0
     Leaving o = Leaves u number sending ports messages locking w o
+
+    heard-there : answeredOn (u .strap) side (getD message 0 0) ≡ On telemetry
+    heard-there = ap (answeredOn (u .strap) side) (sym to) ∙ is
+
+    not-nowhere : answeredOn (u .strap) side (getD message 0 0) ≡ Nowhere → ⊥
+    unfolding is-heard
+    not-nowhere none = false≢true (ap is-heard (sym none ∙ heard-there))
 
     -- what is said of a command that is done or refused, with the numbers of its two answers
     module _ (o : Ending Held) (marks : Marks locking (heldOf next heard) o) (aloud : ℕ → Answer) (silent : Answer) (bytes : List ℕ)
@@ -228,9 +245,6 @@ module _ (u : Unit) (number : ℕ) (sending : Sending) (w : World) (ports : Port
       unheard : (x : Bool) → polls control ≡ x → polls (getD message 2 0) ≡ x
       unheard x e = ap polls (sym told) ∙ e
 
-      heard-there : answeredOn (u .strap) side (getD message 0 0) ≡ On telemetry
-      heard-there = ap (answeredOn (u .strap) side) (sym to) ∙ is
-
       silent-one : (polls control ≡ true → busy ≡ true) → (diagnostics : List ℕ) → diagnostics ≡ countsAfter (u .strap) side ports message m Zero (shownLocked locking (w .diagnostics))
           → Leaving (costing cost Zero (left next telemetry busy destination source control field heard o ports silent (w .buffers .replies) diagnostics))
       silent-one only diagnostics counted = record {
@@ -241,6 +255,7 @@ module _ (u : Unit) (number : ℕ) (sending : Sending) (w : World) (ports : Port
         ports = ports-of-none (u .strap) side ports message (numberOf silent) Zero (w .diagnostics) (ap hasReply two ∙ no-reply);
         stored = refl;
         reply = λ s. no-reply-written s Zero (w .buffers .replies) (sentOf silent) sends-nothing;
+        ours = λ _. not-nowhere;
         leaving = λ loudly. absurd (false≢true (sym (ap hasReply two ∙ no-reply) ∙ loudly));
         losing = λ _ polled t to-t. ap (λ (s : Side). isSending s sending) (one-port t telemetry (sym to-t ∙ heard-there)) ∙ only (ap polls told ∙ polled);
         on-no-port = λ _. refl;
@@ -273,6 +288,7 @@ module _ (u : Unit) (number : ℕ) (sending : Sending) (w : World) (ports : Port
                 a-reply-written s telemetry (w .buffers .replies) (packedOf bytes)
                 ∙ ap (λ (k : ℕ). begun (ofSide s (w .buffers .replies)) (take (cond (eqb (numberOfSide s) (numberOfSide telemetry)) k 0) (ofSide s (put telemetry (w .buffers .replies) (begun (ofSide telemetry (w .buffers .replies)) (packedOf bytes))))))
                 (sym (sends (length (packedOf bytes))));
+            ours = λ _. not-nowhere;
             leaving = λ _. (heard-there, unheard true polled, free);
             losing = λ hushed-now. absurd (false≢true (sym (ap isUnsaid number-is ∙ quiet-one) ∙ hushed-now));
             on-no-port = λ none. absurd (false≢true (sym none ∙ ap hasReply number-is ∙ loud));
@@ -310,6 +326,7 @@ module _ (u : Unit) (number : ℕ) (sending : Sending) (w : World) (ports : Port
           ports = ports-of-none (u .strap) side ports message 10 Zero (w .diagnostics) refl;
           stored = refl;
           reply = λ s. no-reply-written s Zero (w .buffers .replies) 0 refl;
+          ours = λ _. not-nowhere;
           leaving = λ loud. let z : false ≡ true = loud in absurd (false≢true z);
           losing = λ hushed. let z : false ≡ true = hushed in absurd (false≢true z);
           on-no-port = λ _. refl;
@@ -322,8 +339,8 @@ module _ (u : Unit) (number : ℕ) (sending : Sending) (w : World) (ports : Port
   each-case : Each (λ locking. Leaves u number sending ports messages locking w) next side sending heard
   each-case =
       record {
-        taken = quiet Taken (omega arith) refl refl refl refl;
-        elsewhere = quiet Elsewhere (omega arith) refl refl refl refl;
+        taken = quiet Taken (omega arith) refl refl refl refl refl;
+        elsewhere = quiet Elsewhere (omega arith) refl refl refl refl refl;
         dropped = a-drop;
         commanded = λ telemetry destination source control field to told is short.
             a-command telemetry destination source control field to told is _ (commandOf (u .limit) (codeOf control) (heldOf next heard) field)
@@ -394,6 +411,7 @@ what-every-answer-leaves u number byte sending w =
       ports = same .0 ∙ ports-of-none (u .strap) (sideOf number) (heardPorts u number byte w) (w .buffers .messages .at0) (numberOf answer) Zero (w .diagnostics) no-reply;
       stored = same .1;
       reply = λ s. no-reply-written s Zero (w .buffers .replies) (sentOf answer) (high-sends answer high);
+      ours = λ one. absurd (false≢true (sym (no-command-from-5 (numberOf answer) (omega arith) (λ ten. omega arith)) ∙ one));
       leaving = λ loud. absurd (false≢true (sym no-reply ∙ loud));
       losing = λ hushed. absurd (false≢true (sym (no-silence-from-5 (numberOf answer) (omega arith)) ∙ hushed));
       on-no-port = λ _. refl;
@@ -423,11 +441,19 @@ pub what-set-up-leaves : (strap limit : ℕ) (locked : Bool) (w : World) → Set
 unfolding setUpOf
 what-set-up-leaves strap limit locked w = apart (setUpFit strap limit (lengthsOf w)) refl
   where
+    high : (number : ℕ) → SetUpRefusal limit number → 20 ≤ number
+    high number (inl between) = between .0
+    high number (inr is) = let is-29 = is .0 in omega arith
+
     apart : (f : Fit) → setUpFit strap limit (lengthsOf w) ≡ f → SetUpLeaves strap limit locked w (setUpAs f strap limit locked w)
-    apart Fits e = record { set-up = λ _. (refl, refl); refused = λ other. absurd (other refl) }
+    apart Fits e = record { set-up = λ _. (refl, refl); refused = λ other. absurd (other refl); sends-nothing = (refl, refl) }
     apart (Unfit answer) e =
         let number = a-refused-set-up-has-its-number strap limit (lengthsOf w) answer e in
-        record { set-up = λ none. absurd (a-refused-set-up-is-no-0 limit (numberOf answer) number none); refused = λ _. (number, refl, refl) }
+        record {
+          set-up = λ none. absurd (a-refused-set-up-is-no-0 limit (numberOf answer) number none);
+          refused = λ _. (number, refl, refl);
+          sends-nothing = (high-sends answer (high (numberOf answer) number), refl);
+        }
 
 -- A refused set-up hands back a record with which every later call is refused.
 pub a-refused-set-up-is-never-served : (strap limit : ℕ) (locked : Bool) (w : World) (answer : Answer) → setUpFit strap limit (lengthsOf w) ≡ Unfit answer

@@ -477,19 +477,21 @@ module _ (u : Unit) (limited : isLimit (u .limit) ≡ true) (telemetry : Side) (
       ap (λ l. feedOf largest receiver l theirs) (what-is-sent-is-the-packed-answer u telemetry sending destination source control field w polled free came answers)
       ∙ what-is-packed-is-received-back largest (answerMessage destination source control field came) theirs (omega arith) (omega arith) (omega arith) receiver
 
--- Where poll is clear nothing is sent, and both reply buffers are as they were.
+-- Where poll is clear nothing is sent, lost or thrown away: both reply buffers and both ports are as they were, and so are the diagnostics, but for what the
+-- command itself writes there.
 pub nothing-is-sent-where-poll-is-clear : (u : Unit) (telemetry : Side) (sending : Bool) (destination source control : ℕ) (field : List ℕ) (w : World) → polls control ≡ false → (o : Ending Held)
     → let left = answered u telemetry sending destination source control field o w in
     (sentOf (left .answer) ≡ 0) × (left .world .buffers .replies ≡ w .buffers .replies) × (left .unit .ports ≡ u .ports)
+    × (left .world .diagnostics ≡ after (heldOf u w) o .standing .diagnostics)
 nothing-is-sent-where-poll-is-clear u telemetry sending destination source control field w clear (done reply changed) =
     let is = with-no-reply u telemetry sending destination source control field w (done reply changed) Acked Done _ (a-command-done destination source control field reply changed) clear in
-    (ap (λ (o : Outcome). sentOf (o .answer)) is, ap (λ (o : Outcome). o .world .buffers .replies) is, ap (λ (o : Outcome). o .unit .ports) is)
+    (ap (λ (o : Outcome). sentOf (o .answer)) is, ap (λ (o : Outcome). o .world .buffers .replies) is, ap (λ (o : Outcome). o .unit .ports) is, ap (λ (o : Outcome). o .world .diagnostics) is)
 nothing-is-sent-where-poll-is-clear u telemetry sending destination source control field w clear refused =
     let is = with-no-reply u telemetry sending destination source control field w refused Nacked Refused _ (a-command-refused destination source control field) clear in
-    (ap (λ (o : Outcome). sentOf (o .answer)) is, ap (λ (o : Outcome). o .world .buffers .replies) is, ap (λ (o : Outcome). o .unit .ports) is)
+    (ap (λ (o : Outcome). sentOf (o .answer)) is, ap (λ (o : Outcome). o .world .buffers .replies) is, ap (λ (o : Outcome). o .unit .ports) is, ap (λ (o : Outcome). o .world .diagnostics) is)
 nothing-is-sent-where-poll-is-clear u telemetry sending destination source control field w clear unfitted =
     let is = with-nothing-fitted u telemetry sending destination source control field w in
-    (ap (λ (o : Outcome). sentOf (o .answer)) is, ap (λ (o : Outcome). o .world .buffers .replies) is, ap (λ (o : Outcome). o .unit .ports) is)
+    (ap (λ (o : Outcome). sentOf (o .answer)) is, ap (λ (o : Outcome). o .world .buffers .replies) is, ap (λ (o : Outcome). o .unit .ports) is, ap (λ (o : Outcome). o .world .diagnostics) is)
 
 -- 02, T-01: a reply for a port that is sending is lost. Nothing is sent, both reply buffers and both ports are as they were, the answer is 2 or
 -- 4, and the command's effect stays: what is held is what the command came to.

@@ -15,5 +15,6 @@ pub mod Locked
 pub mod Keeping
 pub mod Costing
 pub mod Limits
+pub mod Sending
 pub mod Throwing
 pub mod Worked

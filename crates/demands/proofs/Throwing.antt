@@ -3,16 +3,19 @@ use mathlib.Core.Path.{_≡_, refl, sym, ap, ap₂, _∙_, subst}
 use mathlib.Core.Bool.{Bool, true, false, cond, _&&_, false≢true}
 use mathlib.Core.Logic.{_⊎_, inl, inr}
 use mathlib.Core.List.{List, [], _∷_}
-use Prim.Native.Nat.{ℕ, _+_, _-_, _≤_}
+use Prim.Native.Nat.{ℕ, _+_, _-_, _≤_, _<_}
 use native.Mathlib.Omega.{arith}
 use borrow.Author.Tests.{eq-eqb, ne-eqb, eqb-true, eqb-false, leb-true}
 use lib.Dec.{eqb, leb}
 use lib.ListN.{length, getD}
 use lib.Seq.{getD-set-other}
-use Rattle.line.specs.Framing.{fend}
+use Rattle.line.specs.Framing.{fend, fesc, tfend, tfesc}
 use Rattle.line.specs.Unpacking.{NoFend}
+use Rattle.line.specs.declared.receiver.Heard.{Heard}
 use Rattle.line.specs.declared.receiver.Heard.the-variants as heard
-use Rattle.line.specs.Receiver.{opened}
+use Rattle.line.specs.declared.receiver.Place.{Place}
+use Rattle.line.specs.declared.receiver.Place.the-variants.{Fresh, Run, Escape, Fault}
+use Rattle.line.specs.Receiver.{Reception, opened, closedOf, afterEscapeOf, insideOf, receiveOf}
 use Rattle.memory.specs.Counts.{countedUp}
 use Rattle.memory.specs.Status.{framStatus, statusWritten}
 use Rattle.carrying.proofs.Room.{either-way}
@@ -28,74 +31,139 @@ use Rattle.ports.specs.declared.Sending.{Sending}
 use Rattle.ports.specs.declared.Answered.{Answered}
 use Rattle.ports.specs.declared.Answered.the-variants.{On, Nowhere}
 use Rattle.ports.specs.Sides.{sideOf, numberOfSide, ofSide}
-use Rattle.ports.specs.Ports.{answeredOn, portOf, withPort, countOf, hearing, hearOf, isOpen, firstCount, thrownCount, lostCount}
+use Rattle.ports.specs.Ports.{answeredOn, portOf, withPort, countOf, AfterByte, hearing, hearOf, closesSome, isOpen, firstCount, thrownCount, lostCount}
 use Rattle.ports.proofs.Sides.{put-there}
 use Rattle.judging.specs.declared.Unit.{Unit}
-use Rattle.judging.specs.Judging.{largestMessage, withPorts, verdictOf}
+use Rattle.judging.specs.declared.fitting.Fit.{Fit}
+use Rattle.judging.specs.declared.fitting.Fit.the-variants.{Fits, Unfit}
+use Rattle.judging.specs.Fitting.{stepFit}
+use Rattle.judging.specs.Judging.{largestMessage, withPorts, verdictOf, receivedOf, amongBoth, unless, judgeOf}
 use Rattle.judging.proofs.Serving.{both-hold}
 use Rattle.replying.specs.Replies.{polls}
-use Rattle.commanding.specs.World.{World, messageOf, Outcome, outcome}
+use Rattle.commanding.specs.World.{World, messageOf, lengthsOf, Outcome, outcome, withMessages}
 use Rattle.unit.specs.Steps.{servedOf, stepOf}
 use Rattle.demands.specs.Leaving.{heardPorts, heardMessages, hasReply, isUnsaid, oneMoreLost, countsAfter, shownLocked, portsAfter}
 use Rattle.demands.specs.Locking.{locks}
 use Rattle.demands.specs.Calls.{Call, lentTo, callOn, isOn, Fed, answering, fedOf, reachedBy, bytesOn, openedOn, delivering, Suits, AllSuit, Serves, comesTo}
-use Rattle.demands.proofs.DemandOne.{what-every-answer-leaves}
-use Rattle.demands.proofs.Along.{a-call-keeps-the-same, suits-still, all-suit-still, still-serves, served, idle-port-as-it-was, message-as-it-was}
+use Rattle.demands.proofs.Cases.{heardOn, unitHeard, worldHeard, a-refused-step-has-its-number}
+use Rattle.demands.proofs.DemandOne.{heard-of-one, what-every-answer-leaves}
+use Rattle.demands.proofs.Along.{served-so, port-put, a-call-keeps-the-same, suits-still, all-suit-still, still-serves, served, idle-port-as-it-was, message-as-it-was}
 
 -- ---- as the reply leaves
 
--- A reply leaves (answer 1 or 3) on a port on which a run is open: that port throws it away from then on, the count stays where it stood, the other port is
--- as the byte left it, and of all counts the one for runs thrown away on that port moves, by one. (An order to lock, where the command was one, is
--- shown besides.)
-pub a-reply-throws-an-open-run-away : (u : Unit) (number byte : ℕ) (sending : Sending) (w : World)
-    → let o = stepOf u number byte sending w in
-    let heard = heardPorts u number byte w in
-    (numberOf (o .answer) ≡ 1) ⊎ (numberOf (o .answer) ≡ 3) → isOpen (portOf (o .port) heard) ≡ true
-    → (o .unit .ports ≡ withPort (o .port) heard (Throwing (countOf (portOf (o .port) heard))))
-    × (o .world .diagnostics ≡ countedUp (shownLocked (locks u number byte w) (w .diagnostics)) (thrownCount (o .port)))
-a-reply-throws-an-open-run-away u number byte sending w replied some =
-    let o = stepOf u number byte sending w in
-    let heard = heardPorts u number byte w in
-    let leaves = what-every-answer-leaves u number byte sending w in
-    let message = ofSide (sideOf number) (heardMessages u number byte w) in
-    let shown = shownLocked (locks u number byte w) (w .diagnostics) in (
-      leaves .ports ∙ ports-by (numberOf (o .answer)) (o .port) heard replied some,
-      leaves .counts ∙ counts-by (u .strap) (sideOf number) heard message (numberOf (o .answer)) (o .port) shown replied some,
-    )
+-- a byte inside a run closes none, and a FEND that closes one has opened the next
+only-taken : (largest : ℕ) (place : Place) (count byte : ℕ) (message : List ℕ) → insideOf largest place count byte message .heard ≡ heard.Taken
+unfolding insideOf afterEscapeOf
+only-taken largest Fresh count byte message = refl
+only-taken largest Run count byte message = either-way (λ (r : Reception). r .heard ≡ heard.Taken) (eqb byte fesc) _ _ (λ _. refl) (λ _. refl)
+only-taken largest Escape count byte message =
+    either-way (λ (r : Reception). r .heard ≡ heard.Taken) (eqb byte tfend) _ _ (λ _. refl)
+    (λ _. either-way (λ (r : Reception). r .heard ≡ heard.Taken) (eqb byte tfesc) _ _ (λ _. refl) (λ _. refl))
+only-taken largest Fault count byte message = refl
+
+what-closes-opens : (largest : ℕ) (port : Port) (byte : ℕ) (message : List ℕ) → closesSome (hearOf largest port byte message .heard) ≡ true → isOpen (hearOf largest port byte message .port) ≡ false
+unfolding hearOf receiveOf isOpen closedOf
+what-closes-opens largest (Hearing r) byte message =
+    either-way (λ (x : Reception). closesSome (x .heard) ≡ true → isOpen (Hearing (x .receiver)) ≡ false) (eqb byte fend) _ _ (λ _ _. refl)
+    (λ _ some. absurd (false≢true (sym (ap closesSome (only-taken largest (r .place) (r .count) byte message)) ∙ some)))
+what-closes-opens largest (Throwing count) byte message =
+    either-way (λ (h : AfterByte). closesSome (h .heard) ≡ true → isOpen (h .port) ≡ false) (eqb byte fend) _ _ (λ _ _. refl) (λ _ _. refl)
+
+-- a reply leaves at the close of a run only, so no run is open on the port of its command
+what-replies-has-closed : (u : Unit) (number byte : ℕ) (sending : Sending) (w : World)
+    → let n = numberOf (stepOf u number byte sending w .answer) in
+    (n ≡ 1) ⊎ (n ≡ 3) → isOpen (portOf (sideOf number) (heardPorts u number byte w)) ≡ false
+unfolding stepOf judgeOf servedOf verdictOf
+what-replies-has-closed u number byte sending w replied = apart (stepFit u number (lengthsOf w)) refl
   where
-    ports-by : (n : ℕ) (port : Side) (ports : Ports) → (n ≡ 1) ⊎ (n ≡ 3) → isOpen (portOf port ports) ≡ true → portsAfter n port ports ≡ withPort port ports (Throwing (countOf (portOf port ports)))
-    ports-by n port ports (inl one) is = ap (λ (k : ℕ). portsAfter k port ports) one ∙ simp is
-    ports-by n port ports (inr three) is = ap (λ (k : ℕ). portsAfter k port ports) three ∙ simp is
+    n : ℕ
+    n = numberOf (stepOf u number byte sending w .answer)
 
-    counts-by : (strap : ℕ) (side : Side) (ports : Ports) (message : List ℕ) (n : ℕ) (port : Side) (d : List ℕ) → (n ≡ 1) ⊎ (n ≡ 3) → isOpen (portOf port ports) ≡ true
-        → countsAfter strap side ports message n port d ≡ countedUp d (thrownCount port)
-    counts-by strap side ports message n port d (inl one) is = ap (λ (k : ℕ). countsAfter strap side ports message k port d) one ∙ simp is
-    counts-by strap side ports message n port d (inr three) is = ap (λ (k : ℕ). countsAfter strap side ports message k port d) three ∙ simp is
+    few : (k : ℕ) → (k ≡ 1) ⊎ (k ≡ 3) → (1 ≤ k) × (k ≤ 3)
+    few k (inl one) = (omega arith, omega arith)
+    few k (inr three) = (omega arith, omega arith)
 
--- And where no run is open there, or one is being thrown away already, no port is thrown into anything, and no count moves.
-pub a-reply-throws-nothing-else-away : (u : Unit) (number byte : ℕ) (sending : Sending) (w : World)
-    → let o = stepOf u number byte sending w in
-    let heard = heardPorts u number byte w in
-    (numberOf (o .answer) ≡ 1) ⊎ (numberOf (o .answer) ≡ 3) → isOpen (portOf (o .port) heard) ≡ false
-    → (o .unit .ports ≡ heard) × (o .world .diagnostics ≡ shownLocked (locks u number byte w) (w .diagnostics))
-a-reply-throws-nothing-else-away u number byte sending w replied none =
-    let o = stepOf u number byte sending w in
-    let heard = heardPorts u number byte w in
-    let leaves = what-every-answer-leaves u number byte sending w in
-    let message = ofSide (sideOf number) (heardMessages u number byte w) in
-    let shown = shownLocked (locks u number byte w) (w .diagnostics) in (
-      leaves .ports ∙ ports-by (numberOf (o .answer)) (o .port) heard replied none,
-      leaves .counts ∙ counts-by (u .strap) (sideOf number) heard message (numberOf (o .answer)) (o .port) shown replied none,
-    )
-  where
-    ports-by : (n : ℕ) (port : Side) (ports : Ports) → (n ≡ 1) ⊎ (n ≡ 3) → isOpen (portOf port ports) ≡ false → portsAfter n port ports ≡ ports
-    ports-by n port ports (inl one) is = ap (λ (k : ℕ). portsAfter k port ports) one ∙ simp is
-    ports-by n port ports (inr three) is = ap (λ (k : ℕ). portsAfter k port ports) three ∙ simp is
+    not-so : (k : ℕ) → n ≡ k → (k < 1) ⊎ (3 < k) → ⊥
+    not-so k is (inl low) = let h = few n replied .0 in omega arith
+    not-so k is (inr high) = let h = few n replied .1 in omega arith
 
-    counts-by : (strap : ℕ) (side : Side) (ports : Ports) (message : List ℕ) (n : ℕ) (port : Side) (d : List ℕ) → (n ≡ 1) ⊎ (n ≡ 3) → isOpen (portOf port ports) ≡ false
-        → countsAfter strap side ports message n port d ≡ d
-    counts-by strap side ports message n port d (inl one) is = ap (λ (k : ℕ). countsAfter strap side ports message k port d) one ∙ simp is
-    counts-by strap side ports message n port d (inr three) is = ap (λ (k : ℕ). countsAfter strap side ports message k port d) three ∙ simp is
+    so : stepFit u number (lengthsOf w) ≡ Fits → (h : Heard) → heardOn u number byte w .heard ≡ h
+        → n ≡ numberOf (comesTo (unitHeard u number byte w) (sideOf number) h sending (worldHeard u number byte w) .answer)
+    so e h is =
+        ap (λ (x : Outcome). numberOf (x .answer)) (served-so u number byte sending w e)
+        ∙ ap (λ (x : Heard). numberOf (comesTo (unitHeard u number byte w) (sideOf number) x sending (worldHeard u number byte w) .answer)) is
+
+    by : stepFit u number (lengthsOf w) ≡ Fits → (h : Heard) → heardOn u number byte w .heard ≡ h → isOpen (heardOn u number byte w .port) ≡ false
+    by e (heard.Message count) is = what-closes-opens (largestMessage (u .limit)) (portOf (sideOf number) (u .ports)) byte (messageOf (sideOf number) w) (ap closesSome is)
+    by e heard.Taken is = absurd (not-so 0 (so e heard.Taken is) (inl (omega arith)))
+    by e heard.Empty is = absurd (not-so 0 (so e heard.Empty is) (inl (omega arith)))
+    by e heard.Framing is = absurd (not-so 5 (so e heard.Framing is) (inr (omega arith)))
+
+    apart : (f : Fit) → stepFit u number (lengthsOf w) ≡ f → isOpen (portOf (sideOf number) (heardPorts u number byte w)) ≡ false
+    apart (Unfit answer) e =
+        let high = a-refused-step-has-its-number u number (lengthsOf w) answer e in
+        absurd (not-so (numberOf answer)
+        (ap (λ f. let j = unless f u (w .buffers .messages) (amongBoth (sideOf number) (w .buffers .messages) (receivedOf u (sideOf number) byte (messageOf (sideOf number) w))) in
+        numberOf (servedOf (j .unit) (j .verdict) sending (ofSide (sideOf number) (j .message)) (withMessages w (j .message)) .answer)) e)
+        (inr (omega arith)))
+    apart Fits e =
+        sym (ap (λ (p : Ports). isOpen (portOf (sideOf number) p)) (heard-of-one u number byte w e .0))
+        ∙ ap isOpen (port-put (sideOf number) (u .ports) (heardOn u number byte w .port))
+        ∙ by e (heardOn u number byte w .heard) refl
+
+-- what a reply that leaves does to the ports and the counts, by whether a run is open where it leaves
+module _ (port : Side) (ports : Ports) where
+  abbrev some : Bool
+  some = isOpen (portOf port ports)
+
+  ports-by : (n : ℕ) → (n ≡ 1) ⊎ (n ≡ 3) → portsAfter n port ports ≡ cond some (withPort port ports (Throwing (countOf (portOf port ports)))) ports
+  ports-by n (inl one) = ap (λ (k : ℕ). portsAfter k port ports) one
+  ports-by n (inr three) = ap (λ (k : ℕ). portsAfter k port ports) three
+
+  counts-by : (strap : ℕ) (side : Side) (message d : List ℕ) (n : ℕ) → (n ≡ 1) ⊎ (n ≡ 3)
+      → countsAfter strap side ports message n port d ≡ cond some (countedUp d (thrownCount port)) d
+  counts-by strap side message d n (inl one) = ap (λ (k : ℕ). countsAfter strap side ports message k port d) one
+  counts-by strap side message d n (inr three) = ap (λ (k : ℕ). countsAfter strap side ports message k port d) three
+
+module _ (u : Unit) (number byte : ℕ) (sending : Sending) (w : World) where
+  abbrev o : Outcome
+  o = stepOf u number byte sending w
+
+  abbrev ports : Ports
+  ports = heardPorts u number byte w
+
+  abbrev shown : List ℕ
+  shown = shownLocked (locks u number byte w) (w .diagnostics)
+
+  -- A reply leaves: with answer 1 or 3.
+  abbrev Replied : Type 0
+  Replied = (numberOf (o .answer) ≡ 1) ⊎ (numberOf (o .answer) ≡ 3)
+
+  what-a-reply-leaves : Replied
+      → (o .unit .ports ≡ cond (isOpen (portOf (o .port) ports)) (withPort (o .port) ports (Throwing (countOf (portOf (o .port) ports)))) ports)
+      × (o .world .diagnostics ≡ cond (isOpen (portOf (o .port) ports)) (countedUp shown (thrownCount (o .port))) shown)
+  what-a-reply-leaves replied =
+      let leaves = what-every-answer-leaves u number byte sending w in (
+        leaves .ports ∙ ports-by (o .port) ports (numberOf (o .answer)) replied,
+        leaves .counts ∙ counts-by (o .port) ports (u .strap) (sideOf number) (ofSide (sideOf number) (heardMessages u number byte w)) shown (numberOf (o .answer)) replied,
+      )
+
+  -- It leaves on a port on which a run is open: that port throws it away from then on, the count stays where it stood, the other port is as the byte left it,
+  -- and of all counts the one for runs thrown away on that port moves, by one. (An order to lock, where the command was one, is shown besides.)
+  pub a-reply-throws-an-open-run-away : Replied → isOpen (portOf (o .port) ports) ≡ true
+      → (o .unit .ports ≡ withPort (o .port) ports (Throwing (countOf (portOf (o .port) ports)))) × (o .world .diagnostics ≡ countedUp shown (thrownCount (o .port)))
+  a-reply-throws-an-open-run-away replied is =
+      let left = what-a-reply-leaves replied in (left .0 ∙ simp is, left .1 ∙ simp is)
+
+  -- And where no run is open there, or one is being thrown away already, no port is thrown into anything, and no count moves.
+  pub a-reply-throws-nothing-else-away : Replied → isOpen (portOf (o .port) ports) ≡ false → (o .unit .ports ≡ ports) × (o .world .diagnostics ≡ shown)
+  a-reply-throws-nothing-else-away replied is =
+      let left = what-a-reply-leaves replied in (left .0 ∙ simp is, left .1 ∙ simp is)
+
+  -- So it is with every reply that leaves on the port that its command came in on: the command's FEND has opened the next run there.
+  pub a-reply-on-its-own-port-throws-nothing-away : Replied → o .port ≡ sideOf number → (o .unit .ports ≡ ports) × (o .world .diagnostics ≡ shown)
+  a-reply-on-its-own-port-throws-nothing-away replied here =
+      a-reply-throws-nothing-else-away replied (ap (λ (s : Side). isOpen (portOf s ports)) here ∙ what-replies-has-closed u number byte sending w replied)
 
 -- ---- up to its FEND
 

@@ -18,9 +18,9 @@ use Rattle.ports.specs.declared.Sending.{Sending}
 use Rattle.ports.specs.declared.Answered.{Answered}
 use Rattle.ports.specs.declared.Answered.the-variants.{On, Nowhere}
 use Rattle.ports.specs.Sides.{sideOf, numberOfSide, Both, ofSide}
-use Rattle.ports.specs.Ports.{answeredOn, portOf, withPort, countOf, isOpen, isSending, firstCount, thrownCount, lostCount}
+use Rattle.ports.specs.Ports.{answeredOn, portOf, withPort, bothFresh, countOf, isOpen, isSending, firstCount, thrownCount, lostCount}
 use Rattle.judging.specs.declared.Unit.{Unit}
-use Rattle.judging.specs.Judging.{judgeOf}
+use Rattle.judging.specs.Judging.{withPorts, judgeOf}
 use Rattle.answer.specs.Answers.{numberOf, sentOf}
 use Rattle.replying.specs.Replies.{polls}
 use Rattle.commanding.specs.World.{World, replyOf, lengthsOf, Outcome}
@@ -39,6 +39,10 @@ hasReply number = eqb number 1 || eqb number 3
 
 abbrev pub isUnsaid : ℕ → Bool
 isUnsaid number = eqb number 2 || eqb number 4
+
+-- The answers to a command for this unit: done or refused, 1 to 4, and 10.
+abbrev pub isCommanded : ℕ → Bool
+isCommanded number = hasReply number || isUnsaid number || eqb number 10
 
 -- One more reply lost, on the port on which it should have left.
 abbrev pub oneMoreLost : Answered → List ℕ → List ℕ
@@ -84,6 +88,8 @@ pub record Leaves (u : Unit) (number : ℕ) (sending : Sending) (heard : Ports) 
   -- A sent reply is the written first part of the reply buffer of its port; the other bytes of that buffer, and the whole of each where nothing is sent,
   -- are unchanged.
   pub reply : (side : Side) → replyOf side (o .world) ≡ begun (replyOf side w) (take (sentOn side o) (replyOf side (o .world)))
+  -- 1 to 4 and 10: the message is for an address that is heard on the byte's port.
+  pub ours : isCommanded (numberOf (o .answer)) ≡ true → answeredOn (u .strap) (sideOf number) (getD (ofSide (sideOf number) messages) 0 0) ≡ Nowhere → ⊥
   -- 1 and 3: poll is set, and the reply leaves on the port that the address names, which is not sending. 2 and 4 with poll set: that port is sending. Where no
   -- reply leaves the port is told as 0.
   pub leaving : hasReply (numberOf (o .answer)) ≡ true
@@ -97,6 +103,18 @@ pub record Leaves (u : Unit) (number : ℕ) (sending : Sending) (heard : Ports) 
   pub fram-length : o .unit .«fram_len» ≡ u .«fram_len»
   pub limit : o .unit .limit ≡ u .limit
 
+-- The number of an answer if nothing were sent: 2 for 1 and 4 for 3.
+abbrev pub withoutReply : ℕ → ℕ
+withoutReply number = cond (hasReply number) (number + 1) number
+
+-- Two outcomes that differ in nothing but what becomes of a reply: its port, its buffer, its counts, and a run that it throws away.
+pub record AlikeButForReplies (a b : Outcome) : Type 0 where
+  pub answer : withoutReply (numberOf (a .answer)) ≡ withoutReply (numberOf (b .answer))
+  pub cost : a .cost ≡ b .cost
+  pub memory : (a .world .edac ≡ b .world .edac) × (a .world .frams ≡ b .world .frams)
+  pub messages : a .world .buffers .messages ≡ b .world .buffers .messages
+  pub record-but-its-ports : withPorts (a .unit) bothFresh ≡ withPorts (b .unit) bothFresh
+
 -- The refusals of set-up, which has no 26 and no 27: 20 to 25, or 29 where the limit is outside 260 to 1,028.
 abbrev pub SetUpRefusal : ℕ → ℕ → Type 0
 SetUpRefusal limit number = ((20 ≤ number) × (number ≤ 25)) ⊎ ((number ≡ 29) × (isLimit limit ≡ false))
@@ -106,3 +124,5 @@ SetUpRefusal limit number = ((20 ≤ number) × (number ≤ 25)) ⊎ ((number �
 pub record SetUpLeaves (strap limit : ℕ) (locked : Bool) (w : World) (o : Outcome) : Type 0 where
   pub set-up : numberOf (o .answer) ≡ 0 → (o .unit ≡ somebody strap limit locked w) × (o .world ≡ preparedFor locked w)
   pub refused : (numberOf (o .answer) ≡ 0 → ⊥) → SetUpRefusal limit (numberOf (o .answer)) × (o .unit ≡ nobody) × (o .world ≡ w)
+  -- Neither sends anything.
+  pub sends-nothing : (sentOf (o .answer) ≡ 0) × (o .port ≡ Zero)
