@@ -24,7 +24,7 @@ def said(pings, replies, written, failure="", left=0):
     """What is due on standard error after so many pings."""
     lines = [failure] if failure else []
     lines += [f"answer 0: {5 * pings + 1}", f"answer 1: {pings}"] if pings else []
-    lines += ["bootloader FRAM: unlocked", "largest cost of a CRC: 0", f"replies written: {replies}", f"bytes written: {written}", f"replies left on port 1: {left}", ""]
+    lines += ["bootloader FRAM: unlocked", "largest cost of a CRC: 0", f"replies written on port 0: {replies}", f"bytes written on port 0: {written}", f"replies left on port 1: {left}", ""]
     return "\n".join(lines)
 
 
@@ -90,7 +90,7 @@ def full():
     with open("/dev/full", "wb") as out:
         lines = ended("a full device, many replies", file_of(MANY * 50), out).split("\n")
     same("a full device, many replies: failures", [line for line in lines if line.startswith("wheel:")], [failure])
-    same("a full device, many replies: written", lines[-4:], ["replies written: 0", "bytes written: 0", "replies left on port 1: 0", ""])
+    same("a full device, many replies: written", lines[-4:], ["replies written on port 0: 0", "bytes written on port 0: 0", "replies left on port 1: 0", ""])
 
 
 def closed():

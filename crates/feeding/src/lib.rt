@@ -1,6 +1,9 @@
 // The unit, lent its memory.
 use answer::number_of;
 use answer::sent_of;
+use line::receiver::Receiver;
+use ports::Port;
+use ports::Ports;
 use ports::Sending;
 use ports::Side;
 use unit::Stepped;
@@ -13,26 +16,52 @@ pub struct Fed {
     pub number: u8,
     pub cost: u32,
     pub sent: usize,
-    pub port: u64,
+    pub port: Side,
 }
 
-fn number_of_side(side: Side) -> u64 {
-    match side {
-        Side::Zero => 0,
-        Side::One => 1,
+// A port made again from its parts. A copy has the gaps of its layout too, which on the way through a loop cost more than all the rest.
+fn made_again(port: Port) -> Port {
+    match port {
+        Port::Hearing(receiver) => {
+            let place = receiver.place;
+            Port::Hearing(Receiver {
+                place,
+                count: receiver.count,
+            })
+        }
+        Port::Throwing(count) => Port::Throwing(count),
+    }
+}
+
+fn without_gaps(unit: Unit) -> Unit {
+    let mode = unit.mode;
+    let ports = unit.ports;
+    let port0 = ports.port0;
+    let port1 = ports.port1;
+    Unit {
+        strap: unit.strap,
+        limit: unit.limit,
+        mode,
+        locked: unit.locked,
+        bootloader_len: unit.bootloader_len,
+        fram_len: unit.fram_len,
+        ports: Ports {
+            port0: made_again(port0),
+            port1: made_again(port1),
+        },
     }
 }
 
 fn fed_by(stepped: Stepped) -> Fed {
     let unit = stepped.unit;
     let answer = stepped.answer;
-    let side = stepped.port;
+    let port = stepped.port;
     Fed {
-        unit,
+        unit: without_gaps(unit),
         number: number_of(answer),
         cost: stepped.cost,
         sent: sent_of(answer),
-        port: number_of_side(side),
+        port,
     }
 }
 
@@ -69,7 +98,7 @@ pub fn begun(
     ))
 }
 
-// Feeds the unit one byte, on port 0. A reply is written at once, so that no port is ever sending.
+// Feeds the unit one byte, on port 0. A reply is out of its buffer before the next byte is fed, so that no port is ever sending.
 pub fn feed(
     held: Unit,
     byte: u8,

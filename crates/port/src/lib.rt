@@ -4,6 +4,8 @@
 use libc::STDIN_FILENO;
 use libc::STDOUT_FILENO;
 use line::framing::FEND;
+use ports::Side;
+use ports::sent_by;
 use words::report;
 ghost use Prim.Native.Nat.{_<_};
 
@@ -193,50 +195,48 @@ fn turned(flow: Flow, port: u64, buffer: &[u8]) -> Flow {
 }
 
 // Puts a reply behind what waits. There is room for it: a byte is fed only where the longest reply has some.
-fn queued(flow: Flow, sent: usize, reply: &[u8], buffer: &mut [u8]) -> Flow {
+fn queued(flow: Flow, reply: &[u8], buffer: &mut [u8]) -> Flow {
     let at = flow.to;
-    if sent > reply.len() {
-        return closed(flow);
-    }
     if at > buffer.len() {
         return closed(flow);
     }
-    if sent > buffer.len() - at {
+    if reply.len() > buffer.len() - at {
         return closed(flow);
     }
-    memory::bytes::put(&reply[0..sent], buffer, at);
+    memory::bytes::put(reply, buffer, at);
     let mut now = flow;
-    now.to = at + sent;
+    now.to = at + reply.len();
     now
 }
 
 // A reply on port 1: put behind what waits for its file, or told where there is none.
-fn left_on_port1(flow: Flow, sent: usize, reply: &[u8], buffer: &mut [u8]) -> Flow {
+fn left_on_port1(flow: Flow, reply: &[u8], buffer: &mut [u8]) -> Flow {
     let mut now = flow;
     now.left1 = std::num::wrapping_add_u64(now.left1, 1);
     if now.file1 == 0 {
-        report::left_on_port1(sent as u64);
+        report::left_on_port1(reply.len() as u64);
         return now;
     }
-    queued(turned(now, 1, buffer), sent, reply, buffer)
+    queued(turned(now, 1, buffer), reply, buffer)
 }
 
 // A reply of so many bytes on its way, from the reply buffer of its port.
-fn sent_off(
+fn sent_off<'a>(
     flow: Flow,
     sent: usize,
-    port: u64,
-    reply0: &[u8],
-    reply1: &[u8],
+    side: Side,
+    reply0: &'a [u8],
+    reply1: &'a [u8],
     buffer: &mut [u8],
 ) -> Flow {
     if sent == 0 {
         return flow;
     }
-    if port == 0 {
-        return queued(turned(flow, 0, buffer), sent, reply0, buffer);
+    let reply = sent_by(side, sent, reply0, reply1);
+    match side {
+        Side::Zero => queued(turned(flow, 0, buffer), reply, buffer),
+        Side::One => left_on_port1(flow, reply, buffer),
     }
-    left_on_port1(flow, sent, reply1, buffer)
 }
 
 // The flow with its next byte, or at its end. Where the bytes of the last read are used up, what waits is written before the
@@ -251,16 +251,16 @@ fn filled(flow: Flow, buffer: &mut Buffer) -> Flow {
     taken(now, buffer)
 }
 
-// The flow with its next byte, after a reply of so many bytes left on a port, of those of 0 and 1 whose reply buffers are lent.
-pub fn answered(
+// The flow with its next byte, after a reply of so many bytes left on a port. The reply buffers of both are lent.
+pub fn answered<'a>(
     flow: Flow,
     sent: usize,
-    port: u64,
-    reply0: &[u8; 2068],
-    reply1: &[u8; 2068],
+    side: Side,
+    reply0: &'a [u8; 2068],
+    reply1: &'a [u8; 2068],
     buffer: &mut Buffer,
 ) -> Flow {
-    filled(sent_off(flow, sent, port, reply0, reply1, buffer), buffer)
+    filled(sent_off(flow, sent, side, reply0, reply1, buffer), buffer)
 }
 
 // How many turns are left: none once input or output is at its end. A proved loop has to end, and nothing says that the input

@@ -293,12 +293,23 @@ pub fn heard_by<'a>(side: Side, message0: &'a [u8], message1: &'a [u8]) -> &'a [
     }
 }
 
-// The written first part of the reply buffer of a port, handed back to be sent. An `n` past the end gives the whole.
-pub fn sent_by<'a>(side: Side, n: usize, reply0: &'a mut [u8], reply1: &'a mut [u8]) -> &'a mut [u8]
+// The first part of a buffer. An `n` past the end gives the whole.
+fn part<'a>(buffer: &'a [u8], n: usize) -> &'a [u8]
+    ensures { λ r. ⌜ now r ≡ take n (now (buffer .entry)) ⌝ }
+{
+    if n <= buffer.len() {
+        &buffer[0..n]
+    } else {
+        buffer
+    }
+}
+
+// The written first part of the reply buffer of a port, handed back to be sent.
+pub fn sent_by<'a>(side: Side, n: usize, reply0: &'a [u8], reply1: &'a [u8]) -> &'a [u8]
     ensures { λ r. ⌜ now r ≡ take n (ofSide side (both (now (reply0 .entry)) (now (reply1 .entry)))) ⌝ }
 {
     match side {
-        Side::Zero => line::packing::sent(reply0, n),
-        Side::One => line::packing::sent(reply1, n),
+        Side::Zero => part(reply0, n),
+        Side::One => part(reply1, n),
     }
 }

@@ -45,7 +45,8 @@ fn run(
     let mut flow = port::fresh(file1);
     let mut turns = u64::MAX;
     loop {
-        flow = port::answered(flow, fed.sent, fed.port, &reply0, &reply1, &mut buffer);
+        let side = fed.port;
+        flow = port::answered(flow, fed.sent, side, &reply0, &reply1, &mut buffer);
         turns = left(turns, flow.open);
         if turns == 0 {
             break;

@@ -1,7 +1,8 @@
 // A wheel whose port 0 is standard input and output: `wheel [STRAP [FRAM [LIMIT [BOOTLOADER [LOCK [PORT1]]]]]]`. It sets a unit up,
 // feeds it every byte that it reads and writes every reply, on port 1 to the file of this number, or tells that it left; where the
 // input ends it says on standard error how often each answer came, by its number, which diagnostics moved, whether bootloader FRAM is
-// locked, the largest cost of a CRC command, how many replies and bytes were written, and how many replies left on port 1.
+// locked, the largest cost of a CRC command, how many replies and bytes were written on port 0, and how many replies
+// left on port 1.
 use answer::number_of;
 use judging::Lengths;
 use judging::fitting::Fit;
@@ -69,7 +70,7 @@ fn main() {
         return;
     }
     if os::arg_count() > 7 {
-        report::usage();
+        report::too_many();
         return;
     }
     let strap = arguments::strap();

@@ -37,8 +37,13 @@ pub fn help() {
     );
 }
 
-pub fn usage() {
+fn usage() {
     usage_to(STDERR_FILENO);
+}
+
+pub fn too_many() {
+    said(b"wheel: there are at most six arguments; ");
+    usage();
 }
 
 pub fn bad_strap() {
@@ -184,8 +189,8 @@ pub fn ended(
     diagnostics(values);
     lock(locked);
     line(b"largest cost of a CRC: ", largest as u64);
-    line(b"replies written: ", fends / 2);
-    line(b"bytes written: ", bytes);
+    line(b"replies written on port 0: ", fends / 2);
+    line(b"bytes written on port 0: ", bytes);
     line(b"replies left on port 1: ", left1);
 }
 
