@@ -56,6 +56,7 @@ the-worked-examples-hold = record {
   T01-built-before = (refl, refl, refl);
   T01-lost = (refl, refl, refl, refl, refl, refl, refl);
   T01-lost-NACK = (refl, refl, refl, refl);
+  T01-between = (refl, refl, refl);
   T02 = ((refl, refl, refl, refl, refl, refl), (refl, refl, refl, refl, refl, refl));
   T06 = (refl, (refl, refl, refl, refl, refl, refl), (refl, refl, refl, refl, refl, refl), (refl, refl, refl, refl, refl, refl));
   T07 = (refl, refl, refl, refl, refl);

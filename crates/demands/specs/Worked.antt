@@ -209,6 +209,14 @@ pub record WorkedExamples : Type 0 where
       × (shownOf 1028 zeros (onWhile false true 1 (0xC0 ∷ 0x51 ∷ 0x11 ∷ 0x85 ∷ 0xE0 ∷ 0xBF ∷ 0xC0 ∷ [])) .left .diagnostics ≡ onceAt 0x14)
       × (shownOf 1028 zeros (onWhile true true 0 (0xC0 ∷ 0x61 ∷ 0x11 ∷ 0x84 ∷ 0x0D ∷ 0x7E ∷ 0x69 ∷ 0xC0 ∷ [])) .answers ≡ replicate 7 0 ++ (2 ∷ []))
       × (shownOf 1028 zeros (onWhile true true 0 (0xC0 ∷ 0x61 ∷ 0x11 ∷ 0x84 ∷ 0x0D ∷ 0x7E ∷ 0x69 ∷ 0xC0 ∷ [])) .left .diagnostics ≡ onceAt 0x0D)
+  -- A PING to 0x71 comes on port 1 between the bytes of one to 0x61 on port 0, while port 0 is sending: its reply is lost, which throws nothing away, and the
+  -- PING to 0x61 is then answered. Of the counts only 0x0D has moved.
+  pub T01-between : let s = shownOf 1028 zeros
+      (on 0 (0xC0 ∷ 0x61 ∷ 0x11 ∷ []) ++ onWhile true false 1 (0xC0 ∷ 0x71 ∷ 0x11 ∷ 0x80 ∷ 0x76 ∷ 0xEB ∷ 0xC0 ∷ []) ++ on 0 (0x80 ∷ 0xE3 ∷ 0x6E ∷ 0xC0 ∷ [])) in
+      (s .answers ≡ replicate 9 0 ++ (2 ∷ 0 ∷ 0 ∷ 0 ∷ 1 ∷ []))
+      × (s .sent
+      ≡ both (0xC0 ∷ 0x11 ∷ 0x61 ∷ 0xA0 ∷ 0x57 ∷ 0x48 ∷ 0x45 ∷ 0x45 ∷ 0x4C ∷ 0x20 ∷ 0x55 ∷ 0x4E ∷ 0x49 ∷ 0x54 ∷ 0x20 ∷ 0x4E ∷ 0x53 ∷ 0x50 ∷ 0x20 ∷ 0x30 ∷ 0x31 ∷ 0x98 ∷ 0x95 ∷ 0xC0 ∷ []) [])
+      × (s .left .diagnostics ≡ onceAt 0x0D)
   -- 02, T-02: SPEED holds 100.0. WRITE FILE 15 01 02 03 04: answer 1, the reply shows SPEED as it is, and nothing is stored. WRITE EDAC
   -- 52 00 AA BB CC DD: answer 1, the two bytes before SPEED are stored, and the reply shows those and SPEED's first two.
   pub T02 : Shows withSpeed
