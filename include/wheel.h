@@ -211,8 +211,8 @@ struct wheel_packed wheel_pack(const uint8_t *message, size_t message_len, uint8
  * bytes, for file 0 its address, the mode byte and four bytes. `limit` is the unit's. A list that is empty, that ends inside
  * a file or that is longer than the limit is unfit, and with a limit that no unit has every list is.
  *
- * Judging answers 1 where the list is fit, else 0: with the unit's limit, 1 exactly where that unit in application mode would
- * ACK a WRITE FILE of it, whatever its memory holds. Nothing is written. */
+ * Judging answers 1 where the list is fit, else 0: with the unit's limit, 1 exactly where a WRITE FILE of it would be done by
+ * that unit in application mode, whatever its memory holds, and so ACKed where its reply leaves. Nothing is written. */
 uint8_t wheel_judge_list(uint64_t limit, const uint8_t *list, size_t list_len);
 
 /* Storing stores every file of a fit list in EDAC, in order, as a WRITE FILE of it would: read-only bytes keep their value.
@@ -246,12 +246,15 @@ struct wheel_port {
 /* A whole unit. The board says where its memories are before wheel_begin, and does not alter that while the unit is used. All
  * else is zeros, as in static storage, but for what a board wants a diagnostic to show: no call clears the diagnostics. Between
  * two calls the board may read everything, and set any byte of EDAC and any diagnostic. The bytes of the FRAMs, their sums, the
- * ports' message buffers and `now` are for the unit alone to write. */
+ * ports' message buffers and `now` are for the unit alone to write.
+ *
+ * One call at a time: both ports share the record and the memories. A board with an interrupt for each port must not let one
+ * break into a call that the other makes, and does best to queue the bytes and make the calls in one place. */
 struct wheel {
     uint8_t *edac; /* WHEEL_EDAC bytes */
     struct wheel_fram bootloader;
     struct wheel_fram user;
-    struct wheel_stepped now; /* what the last call gave back: the record, what is to be sent, number and cost */
+    struct wheel_stepped now; /* what the last call gave back: the record, what is to be sent and where, number and cost */
     uint32_t diagnostics[WHEEL_DIAGNOSTICS];
     struct wheel_port ports[2];
 };

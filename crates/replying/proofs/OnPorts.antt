@@ -1,6 +1,6 @@
 -- What is said on a port, by what becomes of the reply: one law for each way. Assumes nothing.
 use mathlib.Core.Path.{_≡_, refl, sym, ap, _∙_}
-use mathlib.Core.Bool.{Bool}
+use mathlib.Core.Bool.{Bool, true, false}
 use mathlib.Core.List.{List}
 use Prim.Native.Nat.{ℕ}
 use Rattle.carrying.specs.declared.Ended.{Ended}
@@ -10,10 +10,10 @@ use Rattle.answer.specs.declared.Answer.{Answer}
 use Rattle.ports.specs.declared.Side.{Side}
 use Rattle.ports.specs.declared.Side.the-variants.{Zero, One}
 use Rattle.ports.specs.declared.Fate.{Fate}
-use Rattle.ports.specs.declared.Fate.the-variants.{Nothing, Lost, Leaves}
+use Rattle.ports.specs.declared.Fate.the-variants.{Nothing}
 use Rattle.ports.specs.Sides.{Both, both}
 use Rattle.replying.specs.Replies.{Said, said, saidOf, endingOf}
-use Rattle.replying.specs.Ports.{fateOfReply, fateOf, silentOf, SaidOn, saidOn, saidByOf, saidOnOf}
+use Rattle.replying.specs.Ports.{fateOfReply, fateOf, silentOf, isLost, SaidOn, saidOn, saidByOf, saidOnOf}
 
 module _ (ended : Ended) (control : ℕ) (sending : Bool) (fate : Fate) where
   pub of-one-done : (size : ℕ) → ended ≡ ended′.Done size → fate ≡ fateOfReply control sending → fate ≡ fateOf ended control sending
@@ -42,26 +42,17 @@ module _ (destination source control : ℕ) (field : List ℕ) (ended : Ended) (
       ∙ ap (λ x. saidByOf x destination source control field (endingOf ended made) (both reply0 reply1)) (sym is)
 
   module _ (fate : Fate) (side : Side) (replies : Both (List ℕ)) where
-    said-as : (f : Fate) (s : SaidOn) → fate ≡ f → s ≡ saidOnOf f side destination source control field (endingOf ended made) replies
-        → s ≡ saidOnOf fate side destination source control field (endingOf ended made) replies
-    said-as f s is e = e ∙ ap (λ x. saidOnOf x side destination source control field (endingOf ended made) replies) (sym is)
-
-    pub a-lost-reply-is-not-said : (answer : Answer) → fate ≡ Lost → answer ≡ silentOf ended
+    pub a-lost-reply-is-not-said : (answer : Answer) → isLost fate ≡ true → answer ≡ silentOf ended
         → saidOn answer replies ≡ saidOnOf fate side destination source control field (endingOf ended made) replies
     unfolding saidOnOf
-    a-lost-reply-is-not-said answer is e = said-as Lost _ is (ap (λ a. saidOn a replies) (e ∙ kind ended))
+    a-lost-reply-is-not-said answer lost e = ap (λ a. saidOn a replies) (e ∙ kind ended) ∙ sym (simp lost)
       where
         kind : (x : Ended) → silentOf x ≡ silentOf (endedOf (endingOf x made))
         kind (ended′.Done size) = refl
         kind ended′.Refused = refl
         kind ended′.Unfitted = refl
 
-    pub no-reply-is-said : (s : SaidOn) → fate ≡ Nothing → s ≡ saidByOf side destination source control field (endingOf ended made) replies
+    pub any-other-is-said : (s : SaidOn) → isLost fate ≡ false → s ≡ saidByOf side destination source control field (endingOf ended made) replies
         → s ≡ saidOnOf fate side destination source control field (endingOf ended made) replies
     unfolding saidOnOf
-    no-reply-is-said s is e = said-as Nothing s is e
-
-    pub a-reply-that-leaves-is-said : (s : SaidOn) → fate ≡ Leaves → s ≡ saidByOf side destination source control field (endingOf ended made) replies
-        → s ≡ saidOnOf fate side destination source control field (endingOf ended made) replies
-    unfolding saidOnOf
-    a-reply-that-leaves-is-said s is e = said-as Leaves s is e
+    any-other-is-said s kept e = e ∙ sym (simp kept)

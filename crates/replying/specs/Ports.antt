@@ -1,6 +1,6 @@
 -- What becomes of a reply, and what is said on which port: 02, T-01. What stands in quotes is 02. Assumes nothing.
 use Prim.Native.Nat.{ℕ}
-use mathlib.Core.Bool.{Bool, cond}
+use mathlib.Core.Bool.{Bool, true, false, cond}
 use mathlib.Core.List.{List}
 use Rattle.carrying.specs.declared.Ended.{Ended}
 use Rattle.carrying.specs.declared.Ended.the-variants as ended
@@ -42,8 +42,12 @@ abbrev pub saidByOf : {M : Type 0} → Side → ℕ → ℕ → ℕ → List ℕ
 saidByOf side destination source control field ending replies =
     let s = saidOf destination source control field ending (ofSide side replies) in saidOn (s .answer) (put side replies (s .reply))
 
+abbrev pub isLost : Fate → Bool
+isLost Nothing = false
+isLost Lost = true
+isLost Leaves = false
+
 -- A reply that is lost writes nothing.
 unfoldable pub saidOnOf : {M : Type 0} → Fate → Side → ℕ → ℕ → ℕ → List ℕ → Ending M → Both (List ℕ) → SaidOn
-saidOnOf Lost side destination source control field ending replies = saidOn (silentOf (endedOf ending)) replies
-saidOnOf Nothing side destination source control field ending replies = saidByOf side destination source control field ending replies
-saidOnOf Leaves side destination source control field ending replies = saidByOf side destination source control field ending replies
+saidOnOf fate side destination source control field ending replies =
+    cond (isLost fate) (saidOn (silentOf (endedOf ending)) replies) (saidByOf side destination source control field ending replies)

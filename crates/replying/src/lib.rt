@@ -13,7 +13,7 @@ ghost use Rattle.carrying.specs.Ending.{longestData};
 ghost use Rattle.memory.specs.Bytes.{stretch, begun};
 ghost use Rattle.ports.specs.Sides.{both};
 ghost use Rattle.replying.specs.Replies.{replyControl, replyMessage, said, saidOf, endingOf};
-ghost use Rattle.replying.specs.Ports.{fateOfReply, fateOf, silentOf, saidOn, saidByOf, saidOnOf};
+ghost use Rattle.replying.specs.Ports.{fateOfReply, fateOf, silentOf, isLost, saidOn, saidByOf, saidOnOf};
 
 // A message's head is destination, source and control, at these places, HEAD bytes in all; its CRC has CRC_SIZE.
 const DESTINATION: usize = 0;
@@ -150,6 +150,16 @@ fn silent_of(ended: Ended) -> Answer
     }
 }
 
+fn is_lost(fate: Fate) -> bool
+    ensures { λ r. ⌜ r ≡ isLost fate ⌝ }
+{
+    match fate {
+        Fate::Nothing => false,
+        Fate::Lost => true,
+        Fate::Leaves => false,
+    }
+}
+
 // The same as `say`, by the port on which it is said.
 fn say_by(
     side: Side,
@@ -191,9 +201,8 @@ pub fn say_on(
         ≡ saidOnOf fate side (getD (now (message .entry)) 0 0) (getD (now (message .entry)) 1 0) (getD (now (message .entry)) 2 0)
         (stretch 3 (count - 5) (now (message .entry))) (endingOf ended (now (made .entry))) (both (now (reply0 .entry)) (now (reply1 .entry))) ⌝ }
 {
-    match fate {
-        Fate::Lost => silent_of(ended),
-        Fate::Nothing => say_by(side, ended, count, message, made, reply0, reply1),
-        Fate::Leaves => say_by(side, ended, count, message, made, reply0, reply1),
+    if is_lost(fate) {
+        return silent_of(ended);
     }
+    say_by(side, ended, count, message, made, reply0, reply1)
 }
