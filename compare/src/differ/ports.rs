@@ -44,14 +44,21 @@ pub fn no_strap(seeded: &mut Seeded) -> u8 {
     seeded.pick(&[8, 8, 8, 9, 0x0F, 0x40, 0x41, 0x80, 0xC0, 0xF8, 0xFF])
 }
 
-/// The number of a port that there is not.
+/// The number of a port that there is not: any, and often the first or the last.
 pub fn no_port(seeded: &mut Seeded) -> u8 {
-    seeded.pick(&[2, 2, 3, 4, 0x40, 0x80, 0xFE, 0xFF, 0xFF])
+    match seeded.below(4) {
+        0 => seeded.pick(&[2, 0xFF]),
+        _ => 2 + seeded.below(254) as u8,
+    }
 }
 
-/// What a caller says of the ports: mostly that neither is sending, and that one is in any number.
+/// What a caller says of the ports: mostly that neither is sending, and that one is by any number but 0.
 pub fn sending(seeded: &mut Seeded) -> [u8; 2] {
-    let mut one = || seeded.pick(&[0, 0, 0, 0, 0, 0, 0, 0, 0, 1, 1, 2, 0xFF]);
+    let mut one = || match seeded.below(13) {
+        0..=8 => 0,
+        9 => 1,
+        _ => 1 + seeded.below(255) as u8,
+    };
     [one(), one()]
 }
 
@@ -221,16 +228,16 @@ fn another_place(pair: &mut Pair, seeded: &mut Seeded, port: usize) {
     };
 }
 
-/// Some bytes on a port that there is not, with nothing else wrong but a count or the limit now and then.
+/// Some bytes on ports that there are not, with nothing else wrong but a count or the limit now and then.
 pub fn misnamed(pair: &mut Pair, seeded: &mut Seeded) -> Played {
     let record = pair.record;
-    pair.misnamed = Some(no_port(seeded));
     match seeded.below(4) {
         0 => pair.record.receivers[seeded.below(2)].count = seeded.pick(&[1_035, usize::MAX]),
         1 => pair.record.limit = limits::none(seeded),
         _ => {}
     }
-    for _ in 0..1 + seeded.below(3) {
+    for _ in 0..1 + seeded.below(32) {
+        pair.misnamed = Some(no_port(seeded));
         pair.byte(any_byte(seeded))?;
     }
     (pair.record, pair.misnamed) = (record, None);
