@@ -1,7 +1,7 @@
 """both.py BENCH WORDS..: starts tools/bench, several times, and speaks to it on both ports as on two serial ports: each address of the
 unit on either port; two commands whose bytes come by turns; memory that one port writes and the other reads; the errors of either
-port; runs that a reply throws away; replies that are lost to a port that is sending; its words, its report and its end. Every reply
-is held to the bytes that are due, and the report at the end to what came here."""
+port; runs that a reply throws away; replies that are lost to a port that is sending; what is written at once and comes byte after byte;
+its words, its report and its end. Every reply is held to the bytes that are due, and the report at the end to what came here."""
 
 import os
 import queue
@@ -81,18 +81,25 @@ class Bench:
         self.process.kill()
         self.process.wait()
 
-    def say(self, port, text):
-        """Sends bytes on a port, and gives the answer to the last of them, once all are heard."""
-        self.ports[port].write(text)
-        answer = None
-        for byte in text:
+    def heard(self):
+        """The next byte that it hears: the port, the byte and the answer."""
+        words = self.told()
+        while " sends " in words:
             words = self.told()
-            while " sends " in words:
-                words = self.told()
-            heard, answer = words.split(": answer ")
-            same("the trace", heard, f"port {port} hears {byte:02X}")
-            self.answers[int(answer)] += 1
-        return int(answer)
+        port, byte, answer = re.fullmatch("port ([01]) hears ([0-9A-F]{2}): answer ([0-9]+)", words).groups()
+        self.answers[int(answer)] += 1
+        return int(port), int(byte, 16), int(answer)
+
+    def hear(self, port, text):
+        """Sends bytes on a port, all at once, and gives the answer to each, once all are heard."""
+        self.ports[port].write(text)
+        heard = [self.heard() for _ in text]
+        same("the trace", [(by, byte) for by, byte, _ in heard], [(port, byte) for byte in text])
+        return [answer for _, _, answer in heard]
+
+    def say(self, port, text):
+        """The same, and the answer to the last."""
+        return self.hear(port, text)[-1]
 
     def message(self, base, code, data=b"", control=POLL):
         """A command to one of the unit's addresses, as the line carries it."""
@@ -251,6 +258,77 @@ def lost():
         bench.end()
 
 
+def at_once(baud):
+    """What is written at once comes byte after byte, and what is sent leaves so: a reply is lost by the bytes that come while the one
+    before it leaves, and not by how the terminal hands them over. No byte is heard, and no reply comes, before its time."""
+    nanoseconds = 10**10 // baud  # for each byte
+
+    def took(start, count):
+        """So many bytes must have had their time since then."""
+        same(f"the time of {count} bytes at {baud}", time.monotonic_ns() - start >= count * nanoseconds, True)
+
+    with Bench(3, "--baud", str(baud)) as bench:
+        for base, (port, answered) in ADDRESSES.items():
+            ping = bench.message(base, PING)
+            reply = len(line(HOST, base + bench.strap, POLL | ACK | PING, TEXT))
+            # The last byte of the second ping comes right behind the first, one before its reply has left, and when it just has.
+            for later in (len(ping), reply - 1, reply):
+                start = time.monotonic_ns()
+                answers = bench.hear(port, ping + FEND * (later - len(ping)) + ping)
+                took(start, len(ping) + later - 1)
+                lost = later < reply
+                same(f"two pings, {later} bytes apart", (answers[len(ping) - 1], answers[-1]), (1, 2 if lost else 1))
+                bench.comes(base, PING, TEXT)
+                if lost:
+                    bench.count(answered, LOST)
+                else:
+                    bench.comes(base, PING, TEXT)
+                    took(start, len(ping) - 1 + reply + reply)
+            # A long command behind it comes when the reply has left, and so does one that is answered on the other port.
+            data = little(USER_FRAM, 4) + bytes(1000)
+            answers = bench.hear(port, ping + bench.message(base, POKE, data))
+            same("a ping and a POKE", (answers[len(ping) - 1], answers[-1]), (1, 1))
+            bench.comes(base, PING, TEXT)
+            bench.comes(base, POKE, data)
+            other = next(b for b, (by, at) in ADDRESSES.items() if by == port and at != answered)
+            answers = bench.hear(port, ping + bench.message(other, PING))
+            same("a ping for each port", (answers[len(ping) - 1], answers[-1]), (1, 1))
+            bench.comes(base, PING, TEXT)
+            bench.comes(other, PING, TEXT)
+        bench.counted(0x40)
+        # More than is read ahead.
+        start = time.monotonic_ns()
+        same("a long run", bench.say(1, FEND + bytes(range(0xC0)) * 50 + FEND), 7)
+        took(start, 50 * 0xC0 + 1)
+        bench.count(1, OVERSIZES)
+        bench.counted(0x50)
+        bench.end()
+
+
+def in_order():
+    """The bytes of both ports are heard in the order in which they come: a long message on one port, written first, is still coming when
+    a short one on the other has come, whose reply throws it away."""
+    with Bench(5, "--baud", "9600") as bench:
+        for port in range(2):
+            own, across = OWN[port], ACROSS[port]
+            texts = {port: bench.message(own, POKE, little(USER_FRAM, 4) + bytes(300)), 1 - port: bench.message(across, PING)}
+            for by, text in texts.items():
+                bench.ports[by].write(text)
+                time.sleep(0.05)  # a small part of the time that the long one takes
+            heard = [bench.heard() for _ in b"".join(texts.values())]
+            for by, text in texts.items():
+                same("the bytes of a port", bytes(byte for at, byte, _ in heard if at == by), text)
+            same("the answers", [(by, answer) for by, _, answer in heard if answer], [(1 - port, 1)])
+            same("the last byte", heard[-1], (port, FEND[0], 0))
+            # While the short one comes, the two come by turns.
+            first, *_, last = [i for i, (by, _, _) in enumerate(heard) if by != port]
+            same("bytes by turns", last - first, 2 * len(texts[1 - port]) - 2)
+            bench.comes(across, PING, TEXT)
+            bench.count(port, THROWN_AWAY)
+        bench.counted(0x40)
+        bench.end()
+
+
 def unread():
     """A terminal that nobody reads gets full. Then its port is sending until somebody does. Each command is answered, or counted as one
     whose reply is lost."""
@@ -298,7 +376,9 @@ def words():
         ("LOCK is locked or unlocked", ["1", "256", "260", "256", "Locked"], ["1", "256", "260", "256", ""]),
         ("--baud is a number from 50 to 4000000", ["--baud"], ["--baud", "49"], ["--baud", "4000001"]),
         ("--for is a number from 0 to 86400", ["--for", "-1"], ["1", "--for", "86401"]),
-        (None, ["1", "256", "260", "256", "locked", "6"], ["--port"]),
+        ("6 is one word too many", ["1", "256", "260", "256", "locked", "6"], ["9", "0", "0", "0", "no", "6", "7"]),
+        ("there is no option --port", ["--port"], ["--port", "1", "256", "260", "256", "locked", "6"]),
+        ("there is no option --baud=9600", ["--baud=9600"], ["1", "--baud=9600"]),
     ]
 
     def ran(*said):
@@ -307,7 +387,7 @@ def words():
 
     for why, *cases in bad:
         for case in cases:
-            same(f"the words {case}", ran(*case), (2, "", f"bench: {why}; {usage}\n" if why else f"{usage}\n"))
+            same(f"the words {case}", ran(*case), (2, "", f"bench: {why}; {usage}\n"))
     same("the help", ran("-h")[1].splitlines()[0], usage)
     status, out, said = ran("--for", "0", "0x7", "256", "260", "0x40000", "locked")
     same("a wheel for no time", (status, len(out.splitlines()), said.splitlines()[0]), (0, 2, "bootloader FRAM: locked"))
@@ -332,7 +412,10 @@ with Bench(1) as one:
     by_turns(one)
     one.end()
 lost()
+for speed in (115200, 460800, 4000000):
+    at_once(speed)
+in_order()
 unread()
 plain()
 words()
-print("addresses, memory, errors, runs thrown away, replies lost, words and report, on both ports over pseudo terminals: ok")
+print("addresses, memory, errors, runs thrown away, replies lost, the time of a byte, words and report, on both ports over pseudo terminals: ok")
