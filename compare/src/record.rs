@@ -22,6 +22,14 @@ pub enum Place {
     Thrown,
 }
 
+pub const PLACES: [Place; 5] = [
+    Place::Fresh,
+    Place::Run,
+    Place::Escape,
+    Place::Fault,
+    Place::Thrown,
+];
+
 /// What one port has received.
 #[derive(Clone, Copy, Debug, PartialEq, Eq)]
 pub struct Receiver {

@@ -2,9 +2,8 @@
 
 use super::pair::Pair;
 use super::play::{any_byte, Played};
-use super::ports::PLACES;
 use super::{commands, lines};
-use crate::record::{Receiver, Record};
+use crate::record::{Receiver, Record, PLACES};
 use crate::Seeded;
 use std::collections::BTreeMap;
 use std::fmt;

@@ -3,9 +3,8 @@
 //! in between.
 
 use super::pair::{ChipLengths, Lengths, Pair, BOOTLOADER, LARGEST, USER};
-use super::ports::PLACES;
 use super::{commands, costs, frams, limits, lines, lists, ports};
-use crate::record::{Mode, Place, Receiver};
+use crate::record::{Mode, Place, Receiver, PLACES};
 use crate::second::read_only::ROWS;
 use crate::{Part, Seeded};
 

@@ -4,7 +4,7 @@
 use super::pair::Pair;
 use super::play::{any_byte, Played};
 use super::{commands, limits, lines};
-use crate::record::{Place, Receiver, Record};
+use crate::record::{Place, Receiver, Record, PLACES};
 use crate::Seeded;
 use std::collections::VecDeque;
 
@@ -14,14 +14,6 @@ const FESC: u8 = 0xDB;
 const PING: u8 = 0x00;
 const DIAGNOSTIC: u8 = 0x04;
 const CRC: u8 = 0x06;
-
-pub const PLACES: [Place; 5] = [
-    Place::Fresh,
-    Place::Run,
-    Place::Escape,
-    Place::Fault,
-    Place::Thrown,
-];
 
 /// The addresses that each port hears where the strap is 0.
 pub const HEARD: [[u8; 2]; 2] = [[0x40, 0x60], [0x50, 0x70]];

@@ -1,8 +1,8 @@
 //! 02, T-01: what came of messages on both ports, by how the port of their reply stood, and all else that befell the ports.
 
 use super::pair::Lengths;
-use super::ports::{answered, HEARD, PLACES};
-use crate::record::{Place, Receiver, Record};
+use super::ports::{answered, HEARD};
+use crate::record::{Place, Receiver, Record, PLACES};
 use crate::wheel::{Heard, Stepped};
 use std::collections::BTreeMap;
 use std::fmt;

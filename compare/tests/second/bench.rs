@@ -1,6 +1,7 @@
 //! A unit on a bench: everything that it is lent, and messages to and from it in the tests' own coding.
 
 use compare::plain;
+pub use compare::record::PLACES;
 use compare::record::{Mode, Place, Receiver, Record, REFUSED};
 use compare::unit::Proved;
 use compare::wheel::{Fram, Heard, Lent, Port, Second, Stepped, Wheel};
@@ -43,14 +44,6 @@ pub const BOOTLOADER: u32 = 0x2000_0000;
 
 /// The highest limit, which is that of every unit unless a test says another.
 pub const LIMIT: u64 = 1_028;
-
-pub const PLACES: [Place; 5] = [
-    Place::Fresh,
-    Place::Run,
-    Place::Escape,
-    Place::Fault,
-    Place::Thrown,
-];
 
 /// Which program a unit is.
 #[derive(Clone, Copy, Debug, PartialEq)]

@@ -12,6 +12,7 @@ use lib.ListN.{length, take, drop, getD, replicate, length-append}
 use lib.Seq.{take-append-seam, getD-append-seam}
 use Rattle.crc.specs.Sum.{sumOf}
 use Rattle.line.specs.Framing.{fend}
+use Rattle.line.specs.Receiver.{opened}
 use Rattle.line.specs.Packing.{bodyOf, packedOf, shortestMessage, messageSize, replySize, Packing, packOf}
 use Rattle.line.proofs.Laying.{a-short-reply-buffer-is-refused, a-short-message-is-refused, a-long-message-is-refused, a-message-of-legal-length-is-packed}
 use Rattle.field.specs.Fields.{bytes16, bytes32}
@@ -51,13 +52,13 @@ use Rattle.face.specs.declared.WheelPacked.{WheelPacked}
 use Rattle.face.specs.Face.{yesOut}
 use Rattle.face.specs.Records.{modeOut, placeIn, portIn, lockIn, lockOut, sendingIn, unitIn, unitOut, Returned, returned, returnedBy}
 use Rattle.face.proofs.Settled.{a-record-comes-back}
-use Rattle.demands.specs.Calls.{callOn, isOn, Fed, answering, fedOf, reachedBy, bytesOn, NoReplyOn, openedOn, delivering, Suits, AllSuit, Serves, Idle, Lending, its-memory, Own, own, ownOf, calledOf, Right, Inside}
+use Rattle.demands.specs.Calls.{lentTo, callOn, isOn, Fed, answering, fedOf, reachedBy, bytesOn, NoReplyOn, openedOn, delivering, Suits, AllSuit, Serves, Idle, addressedOf, Bytes, Lending, its-memory, Own, own, ownOf, calledOf, Right, Inside}
 use Rattle.demands.specs.Locking.{locks}
 use Rattle.demands.specs.Leaving.{heardPorts, heardMessages, hasReply, isUnsaid, isCommanded, countsAfter, shownLocked, portsAfter, SetUpRefusal}
 use Rattle.demands.specs.Orders.{Way, met, SendsUpTo, Sends, withItsMessage, leftBy, sentBy, replies, doneAnswer, cameTo}
 use Rattle.demands.proofs.Cases.{a-refused-set-up-has-its-number, a-refused-set-up-is-no-0}
 use Rattle.demands.proofs.DemandOne.{what-every-answer-leaves, what-set-up-leaves}
-use Rattle.demands.proofs.DemandTwo.{a-packed-message-stands-in-the-buffer}
+use Rattle.demands.proofs.DemandTwo.{a-packed-message-stands-in-the-buffer, a-served-FEND-opens-a-run, after-any-FEND-a-packed-command-is-carried-out}
 use Rattle.demands.proofs.Orders.{a-sent-command-is-carried-out, a-command-that-is-done-sends-its-data}
 use Rattle.demands.proofs.DemandThree.{the-limit-stays-and-the-counts-stop-above-it, after-any-calls-the-sums-are-right, the-CRC-sent-is-fresh}
 use Rattle.demands.proofs.Along.{the-same-is-met}
@@ -206,6 +207,14 @@ module _ (u : WheelUnit) (c : FromC) (steps : Steps u c) where
 
 -- ---- demand 2
 
+-- A FEND that is served opens a run on its port, whatever it closed.
+pub a-FEND-from-C-opens-a-run : (side : Side) (u : WheelUnit) (c : FromC) → Steps u c → Serves (unitIn u) → Suits side (unitIn u) (length (messageOf side (c .lent))) (callOf c)
+    → c .port ≡ numberOfSide side → c .byte ≡ fend → portOf side (unitIn (c .back .unit) .ports) ≡ Hearing opened
+a-FEND-from-C-opens-a-run side u c steps serves suits here ends =
+    ap (λ (v : Unit). portOf side (v .ports)) (next u c steps)
+    ∙ sym (ap (λ w. portOf side (stepOf (unitIn u) (c .port) (c .byte) (sendingIn (c .sending0) (c .sending1)) w .unit .ports)) (same-buffer side (c .lent)))
+    ∙ a-served-FEND-opens-a-run side (unitIn u) (messageOf side (c .lent)) (callOf c) serves suits here ends
+
 -- some calls on the line, and one more, leave what demands says of them: the numbers of the answers on this port, and all that the last one gives back
 -- and leaves
 the-line-from-C : (side : Side) (u : WheelUnit) (message : List ℕ) (calls : List FromC) (c : FromC) → OnTheLine side u message calls c
@@ -306,6 +315,28 @@ module _ (side : Side) (u : WheelUnit) (message : List ℕ) (calls : List FromC)
         → toBeSent c ≡ packedOf (replyMessage 1 destination source control reply)
     a-command-from-C-is-answered leaves reply after came =
         sent-last ∙ a-command-that-is-done-sends-its-data way source control field (callOf c) sends leaves reply after came
+
+  -- The same after any FEND on that port, without one of its own, whatever run that FEND closed (`a-FEND-from-C-opens-a-run`); and for an address that the port
+  -- does not hear as well, which is 9.
+  pub after-any-FEND-a-command-from-C-is-carried-out : (destination source control : ℕ) (field : List ℕ) → Bytes (destination ∷ source ∷ control ∷ field) → length field ≤ u .limit
+      → portOf side (unitIn u .ports) ≡ Hearing opened → Serves (unitIn u) → AllSuit side (unitIn u) (length message) (callsOf calls) → Suits side (unitIn u) (length message) (callOf c)
+      → c .byte ≡ fend → c .port ≡ numberOfSide side → NoReplyFromC side calls
+      → let sent = sealed (destination ∷ source ∷ control ∷ field) in
+      bytesOn side (callsOf calls) ≡ bodyOf sent
+      → (numbersOn side calls ≡ replicate (length (bodyOf sent)) 0)
+      × (returned (c .back) (c .left)
+      ≡ returnedBy
+      (addressedOf (openedOn side (unitIn (lastUnit u calls))) side (sendingIn (c .sending0) (c .sending1)) destination source control field (lentTo side (sent ++ drop (length sent) message) (callOf c))))
+  after-any-FEND-a-command-from-C-is-carried-out destination source control field bytes short after serves all last ends here none is =
+      let sent = sealed (destination ∷ source ∷ control ∷ field) in
+      let two = delivered (length (bodyOf sent)) _
+      (after-any-FEND-a-packed-command-is-carried-out side (unitIn u) message (callsOf calls) (callOf c) serves all last ends here (no-reply-from-C side u message calls c on none)
+      destination source control field bytes short after is) in (
+        two .0,
+        two .1
+            ∙ ap (λ (v : Unit). returnedBy (addressedOf (openedOn side v) side (sendingIn (c .sending0) (c .sending1)) destination source control field (lentTo side (sent ++ drop (length sent) message) (callOf c))))
+            (the-line-from-C side u message calls c on .2),
+      )
 
   -- 02, T-13. A CRC command, with poll set or clear, its reply lost or not, for a range inside one of the FRAMs that the last call lends, whatever sums are kept, says beside
   -- its answer what its range costs: its bytes in blocks only partly covered, plus the blocks wholly covered.
