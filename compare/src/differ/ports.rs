@@ -31,9 +31,9 @@ pub fn strap(seeded: &mut Seeded) -> u8 {
     seeded.below(8) as u8
 }
 
-/// One that none can have: mostly the first.
+/// One that none can have: any from 8 to 255, and the first a quarter of the time.
 pub fn no_strap(seeded: &mut Seeded) -> u8 {
-    seeded.pick(&[8, 8, 8, 9, 0x0F, 0x40, 0x41, 0x80, 0xC0, 0xF8, 0xFF])
+    8 + seeded.below(330).saturating_sub(82) as u8
 }
 
 /// The number of a port that there is not: any, and often the first or the last.
