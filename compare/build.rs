@@ -5,7 +5,8 @@ use std::path::Path;
 use std::{env, fs};
 
 fn main() {
-    let folder = concat!(env!("CARGO_MANIFEST_DIR"), "/target/archive");
+    let target = env::var("TARGET").expect("cargo names the target");
+    let folder = format!("{}/../target/archive/{target}", env!("CARGO_MANIFEST_DIR"));
     println!("cargo:rustc-link-search=native={folder}");
     println!("cargo:rustc-link-lib=static=board");
     println!("cargo:rerun-if-changed={folder}/libboard.a");
