@@ -111,9 +111,10 @@ struct wheel_stepped wheel_step(struct wheel_unit unit, uint8_t port, uint8_t by
                                 uint16_t *sums, size_t sums_len, uint32_t *diagnostics, size_t diagnostics_len,
                                 uint8_t *message0, size_t message0_len, uint8_t *reply0, size_t reply0_len,
                                 uint8_t *message1, size_t message1_len, uint8_t *reply1, size_t reply1_len) {
-    struct wheel_many many;
-    wheel_steps_by_address(&many, &unit, port, &(struct slice){&byte, 1}, sending0, sending1, THE_TEN);
-    return many.last;
+    return wheel_steps(unit, port, &byte, 1, sending0, sending1, edac, edac_len, bootloader, bootloader_len, bootloader_sums,
+                       bootloader_sums_len, fram, fram_len, sums, sums_len, diagnostics, diagnostics_len, message0,
+                       message0_len, reply0, reply0_len, message1, message1_len, reply1, reply1_len)
+        .last;
 }
 
 struct wheel_many wheel_steps(struct wheel_unit unit, uint8_t port, const uint8_t *bytes, size_t bytes_len, uint8_t sending0,

@@ -26,18 +26,17 @@ use Rattle.answer.specs.declared.Answer.the-variants.{Taken}
 use Rattle.answer.specs.Answers.{numberOf}
 use Rattle.judging.specs.declared.Unit.{Unit}
 use Rattle.judging.specs.declared.Lengths.{Lengths}
-use Rattle.judging.specs.declared.fitting.Fit.{Fit}
 use Rattle.judging.specs.declared.fitting.Fit.the-variants.{Fits, Unfit}
 use Rattle.judging.specs.Fitting.{largestCount, stepFit}
 use Rattle.judging.specs.Judging.{largestMessage, withPorts, judgeOf}
 use Rattle.judging.proofs.Serving.{a-served-record-is-sound, served-with-other-ports}
-use Rattle.judging.proofs.Ways.{refused-quietly}
 use Rattle.judging.proofs.Numbers.{a-refused-step-has-its-number}
 use Rattle.commanding.specs.World.{World, messageOf, lengthsOf, Outcome, outcome, withMessages, withMessage}
 use Rattle.unit.specs.Steps.{servedOf, stepOf}
 use Rattle.unit.proofs.Heard.{heardOn, unitHeard, worldHeard, served-so, quietly, loudly}
+use Rattle.streaming.specs.declared.Many.{Many}
 use Rattle.streaming.specs.declared.Quiet.{Quiet}
-use Rattle.streaming.specs.Streams.{Stream, stream, behind, stepsOf, Quieting, quieting, quietingOf, unless, quietlyOf}
+use Rattle.streaming.specs.Streams.{Stream, stream, behind, streamOf, stepsOf, steppedAs, takenOf, refusedOf, Quieting, quieting, quietingOf, quietlyOf}
 
 behind-both : (n m : ℕ) (rest : Stream) → behind n (behind m rest) ≡ behind (n + m) rest
 behind-both n m rest = let e : n + (m + rest .taken) ≡ n + m + rest .taken = omega arith in ap (λ (k : ℕ). stream k (rest .last)) e
@@ -122,13 +121,6 @@ module _ (number : ℕ) (sending : Sending) where
         (loudly (unitHeard u number byte w) side sending (worldHeard u number byte w) (heardOn u number byte w .heard)
         (what-a-byte-closes (largestMessage (u .limit)) (portOf side (u .ports)) byte (messageOf side w) ∙ some))
 
-  a-refused-byte : (u : Unit) (w : World) (answer : Answer) → stepFit u number (lengthsOf w) ≡ Unfit answer → (byte : ℕ) → 1 ≤ numberOf (stepOf u number byte sending w .answer)
-  unfolding stepOf judgeOf servedOf
-  a-refused-byte u w answer e byte =
-      let high = a-refused-step-has-its-number u number (lengthsOf w) answer e in
-      let same : answer ≡ stepOf u number byte sending w .answer = simp e in
-      subst (λ (a : Answer). 1 ≤ numberOf a) same (omega arith)
-
   -- ---- bytes one by one
 
   -- what listening leaves of the unit and of what is lent
@@ -191,83 +183,86 @@ module _ (number : ℕ) (sending : Sending) where
   quiet-bytes (byte ∷ bytes) u w fits = one-heard byte bytes u w fits (quiet-bytes bytes (unitHeard u number byte w) (worldHeard u number byte w) (still-after-a-byte u w fits byte))
 
   module _ (u : Unit) (bytes : List ℕ) (w : World) where
-    abbrev quiet : Quieting
-    quiet = quietlyOf u number bytes (lengthsOf w) (w .buffers .messages)
-
-    abbrev served : Quieting
-    served =
-        let got = listenOnOf side (largestMessage (u .limit)) (portOf side (u .ports)) bytes (w .buffers .messages) in
-        quieting (withPorts u (withPort side (u .ports) (got .port))) (got .taken) (got .message)
-
-    -- The bytes that are only heard come first,
-    heard-first : stepsOf u number bytes sending w ≡ behind (quiet .taken) (stepsOf (quiet .unit) number (drop (quiet .taken) bytes) sending (withMessages w (quiet .messages)))
-    unfolding quietlyOf
-    heard-first = apart (stepFit u number (lengthsOf w)) refl
+    -- a call that is refused
+    pub a-refused-call : (answer : Answer) (many : Many) → stepFit u number (lengthsOf w) ≡ Unfit answer → many ≡ refusedOf u answer (length bytes) → streamOf many w ≡ stepsOf u number bytes sending w
+    unfolding stepOf judgeOf servedOf
+    a-refused-call answer many e is = ap (λ (r : Many). streamOf r w) is ∙ apart bytes
       where
-        apart : (f : Fit) → stepFit u number (lengthsOf w) ≡ f
-            → let q = unless f u (w .buffers .messages) served in stepsOf u number bytes sending w ≡ behind (q .taken) (stepsOf (q .unit) number (drop (q .taken) bytes) sending (withMessages w (q .messages)))
-        apart (Unfit answer) e = sym (behind-none (stepsOf u number bytes sending w))
-        apart Fits e = quiet-bytes bytes u w e
+        apart : (l : List ℕ) → streamOf (refusedOf u answer (length l)) w ≡ stepsOf u number l sending w
+        apart [] = refl
+        apart (byte ∷ l) =
+            let high = a-refused-step-has-its-number u number (lengthsOf w) answer e in
+            let o : stepOf u number byte sending w ≡ outcome u answer w = simp e in
+            let loud = ne-eqb (numberOf answer) 0 (λ z. omega (arith, high, z)) in
+            ap (λ b. streamOf (cond b (takenOf u 0) (record { last = steppedAs u answer; taken = 1 })) w) (ne-eqb (length (byte ∷ l)) 0 (λ z. omega (arith, z)))
+            ∙ sym (ap (λ (o : Outcome). cond (eqb (numberOf (o .answer)) 0) (behind 1 (stepsOf (o .unit) number l sending (o .world))) (stream 1 o)) o
+            ∙ ap (λ b. cond b (behind 1 (stepsOf u number l sending w)) (stream 1 (outcome u answer w))) loud)
 
-    -- and the one after them has an answer other than 0.
-    then-it-speaks : quiet .taken < length bytes → 1 ≤ numberOf (stepOf (quiet .unit) number (getD bytes (quiet .taken) 0) sending (withMessages w (quiet .messages)) .answer)
-    unfolding quietlyOf
-    then-it-speaks = apart (stepFit u number (lengthsOf w)) refl
-      where
-        apart : (f : Fit) → stepFit u number (lengthsOf w) ≡ f
-            → let q = unless f u (w .buffers .messages) served in q .taken < length bytes → 1 ≤ numberOf (stepOf (q .unit) number (getD bytes (q .taken) 0) sending (withMessages w (q .messages)) .answer)
-        apart (Unfit answer) e some = a-refused-byte u w answer e (getD bytes 0 0)
-        apart Fits e some =
-            let largest = largestMessage (u .limit) in
-            let got = listened u bytes w in
-            let closing = the-next-one-closes largest bytes (portOf side (u .ports)) (messageOf side w) some in
-            a-closing-byte (withPorts u (withPort side (u .ports) (got .port))) (withMessage side w (got .message))
-            (still-serves u number w side (got .port) (got .message) e (a-count-stays-low largest largestCount (above u w e) bytes (portOf side (u .ports)) (messageOf side w) (few u w e side))
-            (a-buffer-keeps-its-length largest bytes (portOf side (u .ports)) (messageOf side w)))
-            (getD bytes (got .taken) 0)
-            (ap (λ p. closes p (getD bytes (got .taken) 0)) (port-put side (u .ports) (got .port)) ∙ closing)
+    -- one that is not
+    module _ (fits : stepFit u number (lengthsOf w) ≡ Fits) where
+      abbrev quiet : Quieting
+      quiet = quietlyOf u number bytes (w .buffers .messages)
 
-    -- ---- the two ways through a call
+      -- The bytes that are only heard come first,
+      heard-first : stepsOf u number bytes sending w ≡ behind (quiet .taken) (stepsOf (quiet .unit) number (drop (quiet .taken) bytes) sending (withMessages w (quiet .messages)))
+      unfolding quietlyOf
+      heard-first = quiet-bytes bytes u w fits
 
-    module _ (r : Quiet) (after : Both (List ℕ)) (is : quietingOf r after ≡ quiet) where
-      pub up-to-an-answer : (o : Outcome) → r .taken < length bytes → o ≡ stepOf (r .unit) number (getD bytes (r .taken) 0) sending (withMessages w after)
-          → stream (r .taken + 1) o ≡ stepsOf u number bytes sending w
-      up-to-an-answer o some e =
-          sym (heard-first ∙ ap (λ (q : Quieting). behind (q .taken) (stepsOf (q .unit) number (drop (q .taken) bytes) sending (withMessages w (q .messages)))) (sym is)
-          ∙ ap (λ l. behind (r .taken) (stepsOf (r .unit) number l sending (withMessages w after))) (drop-cons bytes (r .taken) 0 some)
-          ∙ ap (λ b. behind (r .taken) (cond b (behind 1 (stepsOf (now .unit) number (drop (suc (r .taken)) bytes) sending (now .world))) (stream 1 now))) other
-          ∙ ap (stream (r .taken + 1)) (sym e))
-        where
-          now : Outcome
-          now = stepOf (r .unit) number (getD bytes (r .taken) 0) sending (withMessages w after)
+      -- and the one after them has an answer other than 0.
+      then-it-speaks : quiet .taken < length bytes → 1 ≤ numberOf (stepOf (quiet .unit) number (getD bytes (quiet .taken) 0) sending (withMessages w (quiet .messages)) .answer)
+      unfolding quietlyOf
+      then-it-speaks some =
+          let largest = largestMessage (u .limit) in
+          let got = listened u bytes w in
+          let closing = the-next-one-closes largest bytes (portOf side (u .ports)) (messageOf side w) some in
+          a-closing-byte (withPorts u (withPort side (u .ports) (got .port))) (withMessage side w (got .message))
+          (still-serves u number w side (got .port) (got .message) fits (a-count-stays-low largest largestCount (above u w fits) bytes (portOf side (u .ports)) (messageOf side w) (few u w fits side))
+          (a-buffer-keeps-its-length largest bytes (portOf side (u .ports)) (messageOf side w)))
+          (getD bytes (got .taken) 0)
+          (ap (λ p. closes p (getD bytes (got .taken) 0)) (port-put side (u .ports) (got .port)) ∙ closing)
 
-          loud : 1 ≤ numberOf (now .answer)
-          loud =
-              subst (λ (q : Quieting). q .taken < length bytes → 1 ≤ numberOf (stepOf (q .unit) number (getD bytes (q .taken) 0) sending (withMessages w (q .messages)) .answer)) (sym is) then-it-speaks some
+      -- ---- the two ways in which it ends
 
-          other : eqb (numberOf (now .answer)) 0 ≡ false
-          other = ne-eqb (numberOf (now .answer)) 0 (λ z. omega (arith, loud, z))
+      module _ (r : Quiet) (after : Both (List ℕ)) (is : quietingOf r after ≡ quiet) where
+        pub up-to-an-answer : (o : Outcome) → r .taken < length bytes → o ≡ stepOf (r .unit) number (getD bytes (r .taken) 0) sending (withMessages w after)
+            → stream (r .taken + 1) o ≡ stepsOf u number bytes sending w
+        up-to-an-answer o some e =
+            sym (heard-first ∙ ap (λ (q : Quieting). behind (q .taken) (stepsOf (q .unit) number (drop (q .taken) bytes) sending (withMessages w (q .messages)))) (sym is)
+            ∙ ap (λ l. behind (r .taken) (stepsOf (r .unit) number l sending (withMessages w after))) (drop-cons bytes (r .taken) 0 some)
+            ∙ ap (λ b. behind (r .taken) (cond b (behind 1 (stepsOf (now .unit) number (drop (suc (r .taken)) bytes) sending (now .world))) (stream 1 now))) other
+            ∙ ap (stream (r .taken + 1)) (sym e))
+          where
+            now : Outcome
+            now = stepOf (r .unit) number (getD bytes (r .taken) 0) sending (withMessages w after)
 
-      pub up-to-the-end : length bytes ≤ r .taken → stream (r .taken) (outcome (r .unit) Taken (withMessages w after)) ≡ stepsOf u number bytes sending w
-      up-to-the-end none =
-          sym (heard-first ∙ ap (λ (q : Quieting). behind (q .taken) (stepsOf (q .unit) number (drop (q .taken) bytes) sending (withMessages w (q .messages)))) (sym is)
-          ∙ ap (λ l. behind (r .taken) (stepsOf (r .unit) number l sending (withMessages w after))) (drop-of-length-le bytes none)
-          ∙ ap (λ (n : ℕ). stream n (outcome (r .unit) Taken (withMessages w after))) (omega arith))
+            loud : 1 ≤ numberOf (now .answer)
+            loud =
+                subst (λ (q : Quieting). q .taken < length bytes → 1 ≤ numberOf (stepOf (q .unit) number (getD bytes (q .taken) 0) sending (withMessages w (q .messages)) .answer)) (sym is) then-it-speaks some
 
--- ---- the ways through the bytes that are only heard
+            other : eqb (numberOf (now .answer)) 0 ≡ false
+            other = ne-eqb (numberOf (now .answer)) 0 (λ z. omega (arith, loud, z))
 
-module _ (u : Unit) (number : ℕ) (bytes : List ℕ) (l : Lengths) (messages : Both (List ℕ)) where
-  pub none-of-a-refused-call : (answer : Answer) → stepFit u number l ≡ Unfit answer → quieting u 0 messages ≡ quietlyOf u number bytes l messages
-  unfolding quietlyOf
-  none-of-a-refused-call answer e = simp e
+        pub up-to-the-end : (many : Many) → length bytes ≤ r .taken → many ≡ takenOf (r .unit) (r .taken) → streamOf many (withMessages w after) ≡ stepsOf u number bytes sending w
+        up-to-the-end many none ends =
+            ap (λ (x : Many). streamOf x (withMessages w after)) ends
+            ∙ sym (heard-first ∙ ap (λ (q : Quieting). behind (q .taken) (stepsOf (q .unit) number (drop (q .taken) bytes) sending (withMessages w (q .messages)))) (sym is)
+            ∙ ap (λ l. behind (r .taken) (stepsOf (r .unit) number l sending (withMessages w after))) (drop-of-length-le bytes none)
+            ∙ ap (λ (n : ℕ). stream n (outcome (r .unit) Taken (withMessages w after))) (omega arith))
 
-  pub those-of-a-port : (side : Side) (port : Port) (r : Listened) (after : Both (List ℕ)) (ports : Ports) → stepFit u number l ≡ Fits → side ≡ sideOf number → port ≡ portOf side (u .ports)
-      → listeningOf r after ≡ listenOnOf side (largestMessage (u .limit)) port bytes messages → ports ≡ withPort side (u .ports) (r .port)
-      → quieting (withPorts u ports) (r .taken) after ≡ quietlyOf u number bytes l messages
-  unfolding quietlyOf
-  those-of-a-port side port r after ports e is at heard put =
-      ap (λ p. quieting (withPorts u p) (r .taken) after) put
-      ∙ ap (λ (g : Listening (Both (List ℕ))). quieting (withPorts u (withPort side (u .ports) (g .port))) (g .taken) (g .message))
-      (heard ∙ ap (λ p. listenOnOf side (largestMessage (u .limit)) p bytes messages) at)
-      ∙ sym (simp e (ap (λ s. let got = listenOnOf s (largestMessage (u .limit)) (portOf s (u .ports)) bytes messages in
-      quieting (withPorts u (withPort s (u .ports) (got .port))) (got .taken) (got .message)) (sym is)))
+-- ---- the way through the bytes that are only heard
+
+pub those-of-a-port : (u : Unit) (number : ℕ) (bytes : List ℕ) (messages : Both (List ℕ)) (side : Side) (port : Port) (r : Listened) (after : Both (List ℕ)) (ports : Ports)
+    → side ≡ sideOf number → port ≡ portOf side (u .ports)
+    → listeningOf r after ≡ listenOnOf side (largestMessage (u .limit)) port bytes messages → ports ≡ withPort side (u .ports) (r .port)
+    → quieting (withPorts u ports) (r .taken) after ≡ quietlyOf u number bytes messages
+unfolding quietlyOf
+those-of-a-port u number bytes messages side port r after ports is at heard put =
+    ap (λ p. quieting (withPorts u p) (r .taken) after) put
+    ∙ ap (λ (g : Listening (Both (List ℕ))). quieting (withPorts u (withPort side (u .ports) (g .port))) (g .taken) (g .message))
+    (heard ∙ ap (λ p. listenOnOf side (largestMessage (u .limit)) p bytes messages) at)
+    ∙ ap (λ s. let got = listenOnOf s (largestMessage (u .limit)) (portOf s (u .ports)) bytes messages in
+    quieting (withPorts u (withPort s (u .ports) (got .port))) (got .taken) (got .message)) is
+
+-- the limit of a call that is not refused
+pub no-longer-than-any : (u : Unit) (number : ℕ) (l : Lengths) → stepFit u number l ≡ Fits → u .limit ≤ 1028
+no-longer-than-any u number l fits = within-both-ends (u .limit) (a-served-record-is-sound u number l fits .limit) .1

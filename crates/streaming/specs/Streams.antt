@@ -3,18 +3,17 @@ use Prim.Native.Nat.{ℕ, _+_}
 use mathlib.Core.Bool.{cond}
 use mathlib.Core.List.{List, [], _∷_}
 use lib.Dec.{eqb}
+use Rattle.answer.specs.declared.Answer.{Answer}
 use Rattle.answer.specs.declared.Answer.the-variants.{Taken}
 use Rattle.answer.specs.Answers.{numberOf}
+use Rattle.ports.specs.declared.Side.the-variants.{Zero}
 use Rattle.ports.specs.declared.Sending.{Sending}
 use Rattle.ports.specs.Sides.{sideOf, Both}
 use Rattle.ports.specs.Ports.{portOf, withPort}
 use Rattle.listening.specs.Listening.{listenOnOf}
 use Rattle.judging.specs.declared.Unit.{Unit}
-use Rattle.judging.specs.declared.Lengths.{Lengths}
-use Rattle.judging.specs.declared.fitting.Fit.{Fit}
-use Rattle.judging.specs.declared.fitting.Fit.the-variants.{Fits, Unfit}
-use Rattle.judging.specs.Fitting.{stepFit}
 use Rattle.judging.specs.Judging.{largestMessage, withPorts}
+use Rattle.commanding.specs.declared.Stepped.{Stepped}
 use Rattle.commanding.specs.World.{World, Outcome, outcome, outcomeOf}
 use Rattle.unit.specs.Steps.{stepOf}
 use Rattle.streaming.specs.declared.Quiet.{Quiet}
@@ -46,6 +45,18 @@ stepsOf u number (byte ∷ bytes) sending w =
     let o = stepOf u number byte sending w in
     cond (eqb (numberOf (o .answer)) 0) (behind 1 (stepsOf (o .unit) number bytes sending (o .world))) (stream 1 o)
 
+-- ---- the ways in which it ends
+
+-- What is given back where all bytes were only taken, and where the call is refused: its first byte is lost, if it has one.
+abbrev pub steppedAs : Unit → Answer → Stepped
+steppedAs u answer = record { unit = u; answer = answer; cost = 0; port = Zero }
+
+abbrev pub takenOf : Unit → ℕ → Many
+takenOf u taken = record { last = steppedAs u Taken; taken = taken }
+
+abbrev pub refusedOf : Unit → Answer → ℕ → Many
+refusedOf u answer bytes = cond (eqb bytes 0) (takenOf u 0) (record { last = steppedAs u answer; taken = 1 })
+
 -- ---- those of them that are only heard
 
 -- The unit after such bytes, how many there were, and both message buffers.
@@ -61,14 +72,9 @@ quieting u taken messages = record { unit = u; taken = taken; messages = message
 abbrev pub quietingOf : Quiet → Both (List ℕ) → Quieting
 quietingOf r messages = quieting (r .unit) (r .taken) messages
 
--- None where a call is refused.
-abbrev pub unless : Fit → Unit → Both (List ℕ) → Quieting → Quieting
-unless (Unfit answer) u messages heard = quieting u 0 messages
-unless Fits u messages heard = heard
-
--- Those that close no run that is to be judged, up to the first that does.
-unfoldable pub quietlyOf : Unit → ℕ → List ℕ → Lengths → Both (List ℕ) → Quieting
-quietlyOf u number bytes l messages =
+-- Of a call that is not refused: those that close no run that is to be judged, up to the first that does.
+unfoldable pub quietlyOf : Unit → ℕ → List ℕ → Both (List ℕ) → Quieting
+quietlyOf u number bytes messages =
     let side = sideOf number in
     let got = listenOnOf side (largestMessage (u .limit)) (portOf side (u .ports)) bytes messages in
-    unless (stepFit u number l) u messages (quieting (withPorts u (withPort side (u .ports) (got .port))) (got .taken) (got .message))
+    quieting (withPorts u (withPort side (u .ports) (got .port))) (got .taken) (got .message)

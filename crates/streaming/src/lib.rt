@@ -11,10 +11,11 @@ use listening::listen_on;
 use ports::Sending;
 use ports::Side;
 ghost use mathlib.Core.Path.{_≡_};
+ghost use Prim.Native.Nat.{_≤_};
 ghost use Rattle.blocks.specs.Fram.{kept};
 ghost use Rattle.ports.specs.Sides.{both};
 ghost use Rattle.commanding.specs.World.{world};
-ghost use Rattle.streaming.specs.Streams.{streamOf, stepsOf, quietingOf, quietlyOf};
+ghost use Rattle.streaming.specs.Streams.{streamOf, stepsOf, takenOf, refusedOf, quietingOf, quietlyOf};
 
 // How many bytes were taken, and what the last of them gave back.
 pub struct Many {
@@ -28,43 +29,64 @@ struct Quiet {
     pub taken: usize,
 }
 
-// Bytes heard on the port of this number, up to one that closes a run that is to be judged. `lengths` are those of all that is lent to the call.
-fn quietly(
-    unit: Unit,
-    port: u8,
-    bytes: &[u8],
-    lengths: Lengths,
-    message0: &mut [u8],
-    message1: &mut [u8],
-) -> Quiet
-    ensures { λ r. ⌜ quietingOf r (both (now (message0 .exit)) (now (message1 .exit)))
-        ≡ quietlyOf unit port (now (bytes .entry)) lengths (both (now (message0 .entry)) (now (message1 .entry))) ⌝ }
+// So many bytes, all only taken.
+fn only_taken(unit: Unit, taken: usize) -> Many
+    ensures { λ r. ⌜ r ≡ takenOf unit taken ⌝ }
 {
-    let fit = step_fit(unit, port, lengths);
-    match fit {
-        Fit::Unfit(_) => Quiet { unit, taken: 0 },
-        Fit::Fits => {
-            let side = ports::side_of(port);
-            let mode = unit.mode;
-            let before = unit.ports;
-            let largest = unit.limit + SHORTEST_MESSAGE as u16;
-            let was = ports::port_of(side, before);
-            let got = listen_on(side, largest, was, bytes, message0, message1);
-            let now = got.port;
-            let ports = ports::with_port(side, before, now);
-            Quiet {
-                unit: Unit {
-                    strap: unit.strap,
-                    limit: unit.limit,
-                    mode,
-                    locked: unit.locked,
-                    bootloader_len: unit.bootloader_len,
-                    fram_len: unit.fram_len,
-                    ports,
-                },
-                taken: got.taken,
-            }
-        }
+    Many {
+        last: Stepped {
+            unit,
+            answer: Answer::Taken,
+            cost: 0,
+            port: Side::Zero,
+        },
+        taken,
+    }
+}
+
+// A call that is refused loses its first byte, if it has one.
+fn refused(unit: Unit, answer: Answer, bytes: usize) -> Many
+    ensures { λ r. ⌜ r ≡ refusedOf unit answer bytes ⌝ }
+{
+    if bytes == 0 {
+        return only_taken(unit, 0);
+    }
+    Many {
+        last: Stepped {
+            unit,
+            answer,
+            cost: 0,
+            port: Side::Zero,
+        },
+        taken: 1,
+    }
+}
+
+// Bytes heard on the port of this number, up to one that closes a run that is to be judged.
+fn quietly(unit: Unit, port: u8, bytes: &[u8], message0: &mut [u8], message1: &mut [u8]) -> Quiet
+    requires { ⌜ unit .limit ≤ 1028 ⌝ }
+    ensures { λ r. ⌜ quietingOf r (both (now (message0 .exit)) (now (message1 .exit)))
+        ≡ quietlyOf unit port (now (bytes .entry)) (both (now (message0 .entry)) (now (message1 .entry))) ⌝ }
+{
+    let side = ports::side_of(port);
+    let mode = unit.mode;
+    let before = unit.ports;
+    let largest = unit.limit + SHORTEST_MESSAGE as u16;
+    let was = ports::port_of(side, before);
+    let got = listen_on(side, largest, was, bytes, message0, message1);
+    let now = got.port;
+    let ports = ports::with_port(side, before, now);
+    Quiet {
+        unit: Unit {
+            strap: unit.strap,
+            limit: unit.limit,
+            mode,
+            locked: unit.locked,
+            bootloader_len: unit.bootloader_len,
+            fram_len: unit.fram_len,
+            ports,
+        },
+        taken: got.taken,
     }
 }
 
@@ -100,37 +122,36 @@ pub fn steps(
         message1: message1.len(),
         reply1: reply1.len(),
     };
-    let heard = quietly(unit, port, bytes, lengths, message0, message1);
-    let next = heard.unit;
-    let taken = heard.taken;
-    if taken < bytes.len() {
-        let byte = bytes[taken];
-        let all = taken + 1;
-        let last = unit::step(
-            next,
-            port,
-            byte,
-            sending,
-            edac,
-            bootloader,
-            bootloader_sums,
-            fram,
-            sums,
-            diagnostics,
-            message0,
-            reply0,
-            message1,
-            reply1,
-        );
-        return Many { last, taken: all };
-    }
-    Many {
-        last: Stepped {
-            unit: next,
-            answer: Answer::Taken,
-            cost: 0,
-            port: Side::Zero,
-        },
-        taken,
+    // Judged here too, and not by the step alone: what has passed once is known to pass there, and costs nothing again.
+    let fit = step_fit(unit, port, lengths);
+    match fit {
+        Fit::Unfit(answer) => refused(unit, answer, bytes.len()),
+        Fit::Fits => {
+            let heard = quietly(unit, port, bytes, message0, message1);
+            let next = heard.unit;
+            let taken = heard.taken;
+            if taken < bytes.len() {
+                let byte = bytes[taken];
+                let all = taken + 1;
+                let last = unit::step(
+                    next,
+                    port,
+                    byte,
+                    sending,
+                    edac,
+                    bootloader,
+                    bootloader_sums,
+                    fram,
+                    sums,
+                    diagnostics,
+                    message0,
+                    reply0,
+                    message1,
+                    reply1,
+                );
+                return Many { last, taken: all };
+            }
+            only_taken(next, taken)
+        }
     }
 }
