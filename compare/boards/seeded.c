@@ -26,9 +26,11 @@ static unsigned long fit[2];          /* lists judged: unfit, fit */
 
 /* C leaves it to the compiler which of two operands or arguments comes first, so no expression here asks for two numbers but by `?`. */
 static uint32_t any(uint32_t below) {
-    static uint64_t state = SEED;
-    state = state * 6364136223846793005u + 1442695040888963407u;
-    return (uint32_t)(state >> 33) % below;
+    static uint64_t state = 0x9E3779B97F4A7C15u ^ SEED;
+    state ^= state << 13;
+    state ^= state >> 7;
+    state ^= state << 17;
+    return (uint32_t)(state >> 32) % below;
 }
 
 static int seldom(uint32_t times) { return any(times) == 0; }
@@ -115,9 +117,11 @@ static void told(void) {
         printf("%lu bytes: %08lx\n", taken, (unsigned long)hash);
         next += TOLD_EACH;
 #ifdef FAULT
-        /* A fault in one byte of what is lent, once: every later line must differ. */
+        /* One wrong bit, once, for a test that lines differ then: in FRAM, in a count, or in a reply that was sent. */
         if (next == 4 * TOLD_EACH) {
-            user[77] ^= 1;
+            user[77] ^= FAULT == 0;
+            wheel.diagnostics[WHEEL_DIAGNOSTICS - 1] ^= FAULT == 1;
+            wheel.ports[1].reply[WHEEL_REPLY - 1] ^= FAULT == 2;
         }
 #endif
     }
@@ -413,6 +417,7 @@ int main(void) {
     static const unsigned due[] = {0, 1, 2, 3, 4, 5, 6, 7, 8, 9, 10, 20, 21, 22, 23, 24, 25, 26, 27, 29};
     static const unsigned dues[] = {WHEEL_TAKEN, WHEEL_REFUSED_SILENT, WHEEL_BAD_EDAC, WHEEL_BAD_BUFFERS, WHEEL_BAD_LENGTH, WHEEL_TOO_LONG};
     int bad = 0;
+    setvbuf(stdout, NULL, _IONBF, 0); /* a small board has no memory for a buffer */
     fill(bootloader, sizeof bootloader);
     fill(user, sizeof user);
     feed(0, FEND); /* before any set-up */
