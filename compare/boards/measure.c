@@ -118,7 +118,8 @@ static void put(uint8_t *bytes, uint32_t number, size_t size) {
     }
 }
 
-/* A command, the length of its data, and the first values of the data; the rest of it is full of the byte that memory is. */
+/* A command, the length of its data, and the first values of the data; the rest of it is full of the byte that memory is. So a READ
+   FILE and a GATHER have that byte as file and as address. */
 struct command {
     const char *name;
     unsigned code;
@@ -128,17 +129,16 @@ struct command {
     unsigned answer;
 };
 
-enum { ONE_BYTE_LISTED = 0x1E };
-static uint8_t file = 0x5E;
+static uint8_t file; /* which a WRITE FILE has */
 
 static void put_data(const struct command *command, uint8_t fill) {
     const size_t size = command->code >= 0x09 ? 2 : 4;
     memset(data, fill, sizeof data);
-    if (command->answer == WHEEL_NACKED || command->code == 0x00) {
+    if (command->answer == WHEEL_NACKED || command->code == 0x00 || command->code == 0x07) {
         return;
     }
-    if (command->code == 0x04 || command->code == 0x07) { /* channels, files */
-        memset(data, command->code == 0x04 ? ONE_BYTE_LISTED : file, command->length);
+    if (command->code == 0x04) {
+        memset(data, WHEEL_DIAGNOSTICS - 1, command->length);
     } else if (command->code == 0x08) { /* 202 times a file of five bytes, 3 times file 0 of six */
         for (size_t i = 0, at = 0; i < 205; i++) {
             data[at] = i < 202 ? file : 0;
@@ -146,7 +146,7 @@ static void put_data(const struct command *command, uint8_t fill) {
         }
     } else if (command->code == 0x0B) { /* 204 ranges of 1 byte, one of 4 */
         for (size_t at = 0; at < command->length; at += 4) {
-            put(data + at, 0, 2);
+            put(data + at, fill, 2);
             put(data + at + 2, at + 4 < command->length ? 1 : 4, 2);
         }
     } else {
@@ -209,7 +209,7 @@ static const struct command commands[] = {
     {"DIAGNOSTIC of 205 channels", 0x04, 205, 0, 0, RUNS, WHEEL_ACKED},
     {"CRC of all of 65,536 bytes, cost 256", 0x06, 8, AT, AT + 65535, RUNS, WHEEL_ACKED},
     {"CRC of all but the first and last of 65,536 bytes, cost 764", 0x06, 8, AT + 1, AT + 65534, RUNS, WHEEL_ACKED},
-    {"READ FILE of 205 files", 0x07, 205, 0, 0, RUNS, WHEEL_ACKED},
+    {"READ FILE of 205 times a file", 0x07, 205, 0, 0, RUNS, WHEEL_ACKED},
     {"READ EDAC of 1,024 bytes", 0x09, 4, 0x001, 1024, RUNS, WHEEL_ACKED},
     {"WRITE EDAC of 1,026 bytes from 0x001 on", 0x0A, 1028, 0x001, 0, RUNS, WHEEL_ACKED},
     {"GATHER of 204 ranges of 1 byte and one of 4", 0x0B, 820, 0, 0, RUNS, WHEEL_ACKED},

@@ -9,10 +9,16 @@
        between two calls.
 
    How the two share the processor: a call can be broken into by any interrupt, since no interrupt touches what is lent to it. So
-   the control loop is on time whatever the unit does, and the unit pays for it. Where the control step would rather be called by
-   `main` between two calls, it is late by one call at most. The dearest known takes under 50,000 instructions (docs/MEASURED.md),
-   some 2 ms at 25 MHz and 1 ms at 64 MHz; an ordinary byte takes some microseconds. Meanwhile a line of 460,800 baud brings 46
-   bytes in a millisecond, which the ring keeps. */
+   the control loop is on time whatever the unit does. It might as well be called by `main` between two calls; then it is late by
+   one call at most, of which the dearest that is known takes some 50,000 instructions (docs/MEASURED.md): 2 ms at 25 MHz and less
+   than 1 ms at 64 MHz, at one a cycle. Meanwhile a line of 460,800 baud brings 46 bytes in each millisecond, which the ring keeps.
+
+   What both touch, and why that is safe:
+     - `steps` and `speed`: written by the control loop alone, and read by `main` with interrupts off, so that both are of one step.
+     - A line's ring: the interrupt alone moves `put`, and `main` alone `got`; each first uses the place, and then lets go of it.
+     - The reply buffer of a port: the interrupt reads it while the port is sending. `main` tells each call of the unit that it is,
+       and then no call writes it.
+     - EDAC memory, the FRAMs, the record and all else of the unit: `main` alone. */
 #include "wheel.h"
 
 #include <stddef.h>
@@ -26,9 +32,9 @@ struct uart {
 };
 #define UART0 ((struct uart *)0x40004000u)
 #define UART1 ((struct uart *)0x40005000u)
-enum { RECEIVED_FULL = 2 };                                      /* state */
-enum { SEND = 1, RECEIVE = 2, SENT_CALLS = 4, RECEIVED_CALLS = 8 }; /* control */
-enum { SENT = 1, RECEIVED = 2 };                                 /* interrupts: reads which wait, and writing clears them */
+enum { RECEIVED_FULL = 2 };                                         /* state */
+enum { SEND = 1, RECEIVE = 2, SENT_CALLS = 4, RECEIVED_CALLS = 8 }; /* control: `calls` are the interrupts */
+enum { SENT = 1, RECEIVED = 2 };                                    /* interrupts: writing a bit clears it */
 
 struct systick {
     volatile uint32_t control, reload, value;
@@ -42,8 +48,7 @@ static void interrupts_off(void) { __asm__ volatile("cpsid i" ::: "memory"); }
 static void interrupts_on(void) { __asm__ volatile("cpsie i" ::: "memory"); }
 static void wait_for_interrupt(void) { __asm__ volatile("wfi" ::: "memory"); }
 
-/* A port's line. Each word has one writer: `put` the interrupt, `got` main. The rest main writes while the port is silent, and the
-   interrupt while it is sending. */
+/* A port's line. `reply`, `left` and `sending` are main's while the port is silent, and the interrupt's while it is sending. */
 enum { RING = 512 }; /* a power of two */
 struct line {
     struct uart *uart;
@@ -55,7 +60,7 @@ struct line {
 };
 static struct line lines[2] = {{.uart = UART0}, {.uart = UART1}};
 
-/* A byte was received. A full ring takes none: the interrupt is turned off, the byte stays in the UART, and main turns it on again. */
+/* A byte was received. A full ring takes none: the byte stays in the UART, whose interrupt is turned off until main has made room. */
 static void received(struct line *line) {
     line->uart->interrupts = RECEIVED;
     while (line->uart->state & RECEIVED_FULL) {
@@ -68,7 +73,8 @@ static void received(struct line *line) {
     }
 }
 
-/* A byte of a reply has left: the next one, or the port is silent. */
+/* A byte of a reply has left: the next one, or the port is silent. Where a line is shared, it is to be told so one byte later, since
+   the last one is still on its way. */
 static void sent(struct line *line) {
     line->uart->interrupts = SENT;
     if (line->left > 0) {
@@ -84,7 +90,7 @@ void uart0_sent(void) { sent(&lines[0]); }
 void uart1_received(void) { received(&lines[1]); }
 void uart1_sent(void) { sent(&lines[1]); }
 
-/* The control loop: a stand-in for one, of a wheel that gains an eighth of a turn a minute in each step. It writes only these. */
+/* The control loop: a stand-in for one, of a wheel that gains an eighth of a turn a minute in each step. It writes these alone. */
 static volatile uint32_t steps;
 static volatile float speed;
 
@@ -138,7 +144,7 @@ static void send_reply(void) {
     }
 }
 
-/* Some bytes of a port's ring, if there are any. They lie in one piece up to the end of the ring. */
+/* Some bytes of a port's ring, if there are any: so many that the control loop is shown and the other port heard soon again. */
 static void serve(uint8_t port) {
     enum { AT_ONCE = 64 };
     static uint8_t bytes[AT_ONCE];
@@ -168,7 +174,7 @@ int main(void) {
         lines[port].uart->control = SEND | RECEIVE | SENT_CALLS | RECEIVED_CALLS;
     }
     if (wheel_begin(&wheel, STRAP, WHEEL_LIMIT_MOST, WHEEL_UNLOCKED) != WHEEL_TAKEN) {
-        return 1;
+        return 1; /* the strap, the limit or a length is wrong */
     }
     *INTERRUPTS_ON = 0xF;
     SYSTICK->reload = CLOCK / TICKS_A_SECOND - 1;
