@@ -119,7 +119,7 @@ static void put(uint8_t *bytes, uint32_t number, size_t size) {
 }
 
 /* A command, the length of its data, and the first values of the data; the rest of it is full of the byte that memory is. So a READ
-   FILE and a GATHER have that byte as file and as address. */
+   FILE has that byte as its file. */
 struct command {
     const char *name;
     unsigned code;
@@ -146,7 +146,7 @@ static void put_data(const struct command *command, uint8_t fill) {
         }
     } else if (command->code == 0x0B) { /* 204 ranges of 1 byte, one of 4 */
         for (size_t at = 0; at < command->length; at += 4) {
-            put(data + at, fill, 2);
+            put(data + at, 0, 2); /* which takes a little more than an address that is packed as two */
             put(data + at + 2, at + 4 < command->length ? 1 : 4, 2);
         }
     } else {
