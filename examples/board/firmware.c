@@ -11,7 +11,8 @@
    How the two share the processor: a call can be broken into by any interrupt, since no interrupt touches what is lent to it. So
    the control loop is on time whatever the unit does. It might as well be called by `main` between two calls; then it is late by
    one call at most, of which the dearest that is known takes some 50,000 instructions (docs/MEASURED.md): 2 ms at 25 MHz and less
-   than 1 ms at 64 MHz, at one a cycle. Meanwhile a line of 460,800 baud brings 46 bytes in each millisecond, which the ring keeps.
+   than 1 ms at 64 MHz, at one a cycle. Meanwhile a line of 460,800 baud brings 46 bytes in each millisecond, which the ring keeps;
+   and `serve` gives a port no byte behind one that has an answer, so that no two dear ones follow one another there.
 
    What both touch, and why that is safe:
      - `steps` and `speed`: written by the control loop alone, and read by `main` with interrupts off, so that both are of one step.
@@ -90,7 +91,7 @@ void uart0_sent(void) { sent(&lines[0]); }
 void uart1_received(void) { received(&lines[1]); }
 void uart1_sent(void) { sent(&lines[1]); }
 
-/* The control loop: a stand-in for one, of a wheel that gains an eighth of a turn a minute in each step. It writes these alone. */
+/* The control loop: a stand-in for one, of a wheel that is faster by 0.125 after each step. It writes these alone. */
 static volatile uint32_t steps;
 static volatile float speed;
 
