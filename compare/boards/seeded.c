@@ -2,6 +2,8 @@
    wherever they run, or the functions of the archive do not do the same. Built with -DSEED=.. -DBYTES=.. -DBLOCKS=.. -DMANY=..: the
    seed, how many bytes of the line are given to units, how many blocks an FRAM has at most, and how many it has now and then.
 
+   A board needs some 3.7 KB of stack for it.
+
    Units of many limits, straps, sizes and locks are set up in turn; bytes of commands of every code come on both ports, by turns,
    sound and with wrong CRCs, framing faults, escapes, long runs and noise; ports are sending or not; records, ports, limits and
    lengths are wrong now and then; the board alters EDAC memory between calls. After every call everything that it gives back goes
@@ -9,8 +11,11 @@
    lists of files come in between. Each so many bytes a line tells the hash, and the last lines how often each answer came. */
 #include "wheel.h"
 
+#include <stdarg.h>
 #include <stdio.h>
+#include <stdlib.h>
 #include <string.h>
+#include <unistd.h>
 
 enum { NUMBERS = 37, TOLD_EACH = BYTES / 20, FEND = 0xC0, FESC = 0xDB };
 
@@ -23,6 +28,18 @@ static uint32_t hash = 0x811C9DC5u;
 static unsigned long taken, calls, replies[2], came[NUMBERS], costly, locked, thrown;
 static unsigned long others[NUMBERS]; /* the answers of packing, joining and storing */
 static unsigned long fit[2];          /* lists judged: unfit, fit */
+
+/* As printf, which on a small board would take memory that the stack needs. */
+static void print(const char *format, ...) {
+    char text[160];
+    va_list words;
+    va_start(words, format);
+    const int length = vsnprintf(text, sizeof text, format, words);
+    va_end(words);
+    if (length >= (int)sizeof text || write(1, text, (size_t)length) != length) {
+        exit(1);
+    }
+}
 
 /* C leaves it to the compiler which of two operands or arguments comes first, so no expression here asks for two numbers but by `?`. */
 static uint32_t any(uint32_t below) {
@@ -114,7 +131,7 @@ static void told(void) {
     static unsigned long next = TOLD_EACH;
     if (taken >= next) {
         everything();
-        printf("%lu bytes: %08lx\n", taken, (unsigned long)hash);
+        print("%lu bytes: %08lx\n", taken, (unsigned long)hash);
         next += TOLD_EACH;
 #ifdef FAULT
         /* One wrong bit, once, for a test that lines differ then: in FRAM, in a count, or in a reply that was sent. */
@@ -417,7 +434,6 @@ int main(void) {
     static const unsigned due[] = {0, 1, 2, 3, 4, 5, 6, 7, 8, 9, 10, 20, 21, 22, 23, 24, 25, 26, 27, 29};
     static const unsigned dues[] = {WHEEL_TAKEN, WHEEL_REFUSED_SILENT, WHEEL_BAD_EDAC, WHEEL_BAD_BUFFERS, WHEEL_BAD_LENGTH, WHEEL_TOO_LONG};
     int bad = 0;
-    setvbuf(stdout, NULL, _IONBF, 0); /* a small board has no memory for a buffer */
     fill(bootloader, sizeof bootloader);
     fill(user, sizeof user);
     feed(0, FEND); /* before any set-up */
@@ -431,19 +447,19 @@ int main(void) {
         }
     }
     everything();
-    printf("%lu bytes in all: %08lx\n", taken, (unsigned long)hash);
+    print("%lu bytes in all: %08lx\n", taken, (unsigned long)hash);
     for (size_t i = 0; i < sizeof due / sizeof due[0]; i++) {
-        printf("answer %u: %lu\n", due[i], came[due[i]]);
+        print("answer %u: %lu\n", due[i], came[due[i]]);
         bad |= came[due[i]] == 0;
     }
     for (size_t i = 0; i < sizeof dues / sizeof dues[0]; i++) {
-        printf("packing, joining and storing, answer %u: %lu\n", dues[i], others[dues[i]]);
+        print("packing, joining and storing, answer %u: %lu\n", dues[i], others[dues[i]]);
         bad |= others[dues[i]] == 0;
     }
-    printf("lists unfit and fit: %lu, %lu\n", fit[0], fit[1]);
-    printf("calls hashed: %lu, locked %lu, with a cost %lu, while a run was thrown away %lu, replies on port 0 and 1 %lu, %lu\n", calls,
+    print("lists unfit and fit: %lu, %lu\n", fit[0], fit[1]);
+    print("calls hashed: %lu, locked %lu, with a cost %lu, while a run was thrown away %lu, replies on port 0 and 1 %lu, %lu\n", calls,
            locked, costly, thrown, replies[0], replies[1]);
     bad |= !fit[0] || !fit[1] || !locked || !costly || !thrown || !replies[0] || !replies[1];
-    puts(bad ? "BAD: something that is due never came" : "everything that is due came");
+    print(bad ? "BAD: something that is due never came\n" : "everything that is due came\n");
     return bad;
 }

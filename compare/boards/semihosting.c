@@ -1,9 +1,16 @@
 /* The little that newlib asks of a board, by semihosting: the emulator, or a debugger, takes what is written and the exit status.
-   There are no files, and nothing can be read. */
+   There are no files, and nothing can be read. A program whose stack has met its heap fails, whatever it answers. */
 #include <errno.h>
 #include <stdint.h>
 #include <stdlib.h>
 #include <sys/stat.h>
+
+extern char free_first[];           /* of the linker script */
+extern const uint32_t stack_paint; /* of start.c */
+
+void finish(int status);
+void _exit(int status);
+int _write(int file, const char *bytes, int length);
 
 enum { OPERATION_OPEN = 0x01, OPERATION_WRITE = 0x05, OPERATION_EXIT = 0x20, APPLICATION_EXIT = 0x20026 };
 
@@ -14,7 +21,17 @@ static int ask(int operation, const void *words) {
     return result;
 }
 
-void finish(int status) { exit(status); }
+static char *heap_end = free_first;
+
+void finish(int status) {
+    const uint32_t *word = (const uint32_t *)(((uintptr_t)heap_end + 3) & ~(uintptr_t)3);
+    if (*word != stack_paint) {
+        static const char words[] = "BAD: the stack has met the heap\n";
+        _write(1, words, sizeof words - 1);
+        _exit(99);
+    }
+    exit(status);
+}
 
 void _exit(int status) {
     const uint32_t words[2] = {APPLICATION_EXIT, (uint32_t)status};
@@ -36,15 +53,13 @@ int _write(int file, const char *bytes, int length) {
 
 /* What is free lies behind the variables; the stack comes down to it from the other end. */
 void *_sbrk(int bytes) {
-    extern char free_first[];
-    static char *end = free_first;
     char here;
-    if (end + bytes > &here) {
+    if (heap_end + bytes > &here) {
         errno = ENOMEM;
         return (void *)-1;
     }
-    end += bytes;
-    return end - bytes;
+    heap_end += bytes;
+    return heap_end - bytes;
 }
 
 int _fstat(int file, struct stat *about) {

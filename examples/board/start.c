@@ -1,5 +1,5 @@
 /* What a Cortex-M does before main: it takes its stack and its first instruction from the table of vectors; then the variables get
-   their first values, and main is called. A handler that no other file has ends in `stop`. */
+   their first values, what is left for the stack is painted, and main is called. A handler that no other file has ends in `stop`. */
 #include <stdint.h>
 
 /* Of the linker script. */
@@ -7,6 +7,9 @@ extern uint32_t data_first[], data_end[], data_values[], bss_first[], bss_end[],
 
 int main(void);
 void reset(void), stop(void);
+
+/* What the memory holds that no stack has ever reached: so it can be seen, by a debugger too, how deep it went. */
+const uint32_t stack_paint = 0x5AA5A55A;
 
 /* What is done with main's result, where a file says it: firmware has nobody to tell. */
 __attribute__((weak)) void finish(int status);
@@ -22,6 +25,9 @@ void reset(void) {
     }
     for (uint32_t *word = bss_first; word < bss_end; word++) {
         *word = 0;
+    }
+    for (volatile uint32_t *word = bss_end; word < (uint32_t *)__builtin_frame_address(0) - 16; word++) {
+        *word = stack_paint;
     }
     const int status = main();
     if (finish) {
