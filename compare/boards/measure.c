@@ -25,6 +25,7 @@ static uint8_t by, next; /* a port and a byte */
 #define MEASURED __attribute__((noinline)) static
 MEASURED unsigned nothing(void) { return 0; }
 MEASURED unsigned byte(void) { return wheel_byte(&wheel, by, next, WHEEL_SILENT, WHEEL_SILENT); }
+MEASURED unsigned some(void) { return wheel_bytes(&wheel, by, line, given, WHEEL_SILENT, WHEEL_SILENT) == given ? wheel.now.answer : 99; }
 MEASURED unsigned set_up(void) { return wheel_begin(&wheel, STRAP, WHEEL_LIMIT_MOST, WHEEL_UNLOCKED); }
 MEASURED unsigned sum(void) { return wheel_crc(user, given); }
 MEASURED unsigned pack(void) { return wheel_pack(data, given, line, WHEEL_REPLY).answer; }
@@ -158,7 +159,7 @@ static void put_data(const struct command *command, uint8_t fill) {
 }
 
 /* The closing byte of a command, by the address that is less than the strap's and the port that hears it. */
-static struct taken closed_at(const struct command *command, uint8_t fill, uint8_t address, uint8_t port, size_t fram) {
+static struct taken closed_at(const struct command *command, uint8_t fill, uint8_t address, uint8_t port, size_t fram, unsigned (*function)(void)) {
     begin(fill, fram);
     put_data(command, fill);
     uint8_t *const message = wheel.ports[port].message;
@@ -172,28 +173,35 @@ static struct taken closed_at(const struct command *command, uint8_t fill, uint8
     wheel.now.unit.count0 = port == 0 ? end + 2 : 1;
     wheel.now.unit.count1 = port == 1 ? end + 2 : 1;
     by = port;
-    const struct taken taken = call(byte);
+    line[0] = next;
+    given = 1;
+    const struct taken taken = call(function);
     due(command->name, taken.answer, command->answer);
     return taken;
 }
 
 static struct taken dearest;
 
-static void closed(const struct command *command, size_t fram) {
+static void closed_by(const struct command *command, size_t fram, const char *how, unsigned (*function)(void)) {
     static const uint8_t fills[] = {0xC0, 0xDB, 0x41};
     static const uint8_t ways[4][2] = {{WHEEL_0_ANSWERED_ON_1, 0}, {WHEEL_0_ANSWERED_ON_0, 0}, {WHEEL_1_ANSWERED_ON_1, 1}, {WHEEL_1_ANSWERED_ON_0, 1}};
     struct taken most = {0, 0, command->answer};
     uint8_t which = 0;
     for (int i = 0; i < 12; i++) {
-        const struct taken taken = closed_at(command, fills[i / 4], ways[i % 4][0], ways[i % 4][1], fram);
+        const struct taken taken = closed_at(command, fills[i / 4], ways[i % 4][0], ways[i % 4][1], fram, function);
         which = taken.instructions > most.instructions ? fills[i / 4] : which;
         most.instructions = taken.instructions > most.instructions ? taken.instructions : most.instructions;
         most.stack = taken.stack > most.stack ? taken.stack : most.stack;
     }
-    printf("the FEND that closes %s, bytes 0x%02X: %lu instructions, %lu bytes of stack\n", command->name, (unsigned)which,
+    printf("%s, the FEND that closes %s, bytes 0x%02X: %lu instructions, %lu bytes of stack\n", how, command->name, (unsigned)which,
            (unsigned long)most.instructions, (unsigned long)most.stack);
     dearest.instructions = most.instructions > dearest.instructions ? most.instructions : dearest.instructions;
     dearest.stack = most.stack > dearest.stack ? most.stack : dearest.stack;
+}
+
+static void closed(const struct command *command, size_t fram) {
+    closed_by(command, fram, "wheel_byte", byte);
+    closed_by(command, fram, "wheel_bytes", some);
 }
 
 #define AT WHEEL_USER_FRAM_FIRST
@@ -226,7 +234,7 @@ static void find_file(void) {
     uint8_t which = 0;
     for (unsigned each = 1; each < 256; each++) {
         file = (uint8_t)each;
-        const uint32_t taken = closed_at(&writes, 0xDB, WHEEL_0_ANSWERED_ON_1, 0, WHEEL_FRAM_LEAST).instructions;
+        const uint32_t taken = closed_at(&writes, 0xDB, WHEEL_0_ANSWERED_ON_1, 0, WHEEL_FRAM_LEAST, byte).instructions;
         which = taken > most ? file : which;
         most = taken > most ? taken : most;
     }
@@ -239,20 +247,30 @@ int main(void) {
     TIMER[0] = 1;
     begin(0, 65536);
     next = 0x41;
-    tell("an ordinary byte", call(byte), WHEEL_TAKEN);
+    tell("wheel_byte, an ordinary byte", call(byte), WHEEL_TAKEN);
 #ifdef FEW
-    tell("the FEND that closes a PING with 1,028 bytes", closed_at(&commands[0], 0x41, WHEEL_0_ANSWERED_ON_1, 0, 256), WHEEL_ACKED);
+    tell("wheel_byte, the FEND that closes a PING with 1,028 bytes", closed_at(&commands[0], 0x41, WHEEL_0_ANSWERED_ON_1, 0, 256, byte), WHEEL_ACKED);
     return 0;
 #endif
     by = 1;
-    tell("an ordinary byte on port 1", call(byte), WHEEL_TAKEN);
+    tell("wheel_byte, an ordinary byte on port 1", call(byte), WHEEL_TAKEN);
     by = 0;
-    next = 0xDB;
-    tell("FESC", call(byte), WHEEL_TAKEN);
-    next = 0xDC;
-    tell("TFEND after FESC", call(byte), WHEEL_TAKEN);
+    memset(line, 0x41, sizeof line);
+    static const size_t runs[] = {1, 11, 1001};
+    for (size_t i = 0; i < sizeof runs / sizeof runs[0]; i++) {
+        char name[48];
+        begin(0, 65536);
+        given = runs[i];
+        snprintf(name, sizeof name, "wheel_bytes, %lu ordinary bytes", (unsigned long)given);
+        tell(name, call(some), WHEEL_TAKEN);
+    }
     begin(0, 65536);
-    tell("a FEND that closes an empty run", call(byte), WHEEL_TAKEN);
+    next = 0xDB;
+    tell("wheel_byte, FESC", call(byte), WHEEL_TAKEN);
+    next = 0xDC;
+    tell("wheel_byte, TFEND after FESC", call(byte), WHEEL_TAKEN);
+    begin(0, 65536);
+    tell("wheel_byte, a FEND that closes an empty run", call(byte), WHEEL_TAKEN);
     for (size_t i = 0; i < sizeof commands / sizeof commands[0]; i++) {
         closed(&commands[i], 65536);
     }
@@ -261,9 +279,9 @@ int main(void) {
     closed(&writes, 65536);
     printf("the dearest of these: %lu instructions, %lu bytes of stack\n", (unsigned long)dearest.instructions, (unsigned long)dearest.stack);
     begin(0x55, 65536);
-    tell("set-up with 65,536 bytes of each FRAM", call(set_up), WHEEL_TAKEN);
+    tell("wheel_begin with 65,536 bytes of each FRAM", call(set_up), WHEEL_TAKEN);
     begin(0x55, WHEEL_FRAM_MOST);
-    tell("set-up with 262,144 bytes of each FRAM", call(set_up), WHEEL_TAKEN);
+    tell("wheel_begin with 262,144 bytes of each FRAM", call(set_up), WHEEL_TAKEN);
     static const size_t lengths[] = {3, 63, 64, 256, 1033, 65536};
     for (size_t i = 0; i < sizeof lengths / sizeof lengths[0]; i++) {
         given = lengths[i];

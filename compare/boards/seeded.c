@@ -2,7 +2,7 @@
    wherever they run, or the functions of the archive do not do the same. Built with -DSEED=.. -DBYTES=.. -DBLOCKS=.. -DMANY=..: the
    seed, how many bytes of the line are given to units, how many blocks an FRAM has at most, and how many it has now and then.
 
-   A board needs some 3.7 KB of stack for it.
+   A board needs some 4 KB of stack for it.
 
    Units of many limits, straps, sizes and locks are set up in turn; bytes of commands of every code come on both ports, by turns,
    sound and with wrong CRCs, framing faults, escapes, long runs and noise; ports are sending or not; records, ports, limits and
@@ -172,9 +172,20 @@ static struct wheel_stepped plain(struct wheel_unit unit, uint8_t port, uint8_t 
                       wheel.ports[1].message, n[8], wheel.ports[1].reply, n[9]);
 }
 
+/* The same with bytes, all alike: how many were taken goes into the hash, and so does the call of none. */
+static struct wheel_stepped plain_many(struct wheel_unit unit, uint8_t port, uint8_t byte, const size_t *n) {
+    const uint8_t sending0 = sending(), sending1 = sending(), several[3] = {byte, byte, byte};
+    const struct wheel_many many =
+        wheel_steps(unit, port, several, any(4), sending0, sending1, edac, n[0], bootloader, n[1], bootloader_sums, n[2], user, n[3],
+                    user_sums, n[4], wheel.diagnostics, n[5], wheel.ports[0].message, n[6], wheel.ports[0].reply, n[7],
+                    wheel.ports[1].message, n[8], wheel.ports[1].reply, n[9]);
+    wide(many.taken);
+    return many.last;
+}
+
 /* A call in which something is wrong: a length, the port, or what no record of a unit says. It is refused and changes nothing, and
-   the unit goes on from where it was. */
-static void refused(void) {
+   the unit goes on from where it was. It is a function of its own, since its records would take stack of the calls that are not. */
+__attribute__((noinline)) static void refused(void) {
     enum { LENGTHS = 10, PORT = LENGTHS, LIMIT, COUNT0, COUNT1, STRAP, ALL };
     const unsigned wrong = any(ALL);
     struct wheel_unit unit = wheel.now.unit;
@@ -185,7 +196,8 @@ static void refused(void) {
     unit.count1 = wrong == COUNT1 ? 1035 + ((uint64_t)any(3) << 32) : unit.count1;
     unit.strap = wrong == STRAP ? (uint8_t)(8 + any(248)) : unit.strap;
     const uint8_t port = (uint8_t)(wrong == PORT ? 2 + any(254) : any(2)), byte = (uint8_t)any(256);
-    const struct wheel_stepped now = plain(unit, port, byte, lengths);
+    const int many = any(2) != 0;
+    const struct wheel_stepped now = many ? plain_many(unit, port, byte, lengths) : plain(unit, port, byte, lengths);
     given(&now);
     everything();
 }
@@ -219,12 +231,7 @@ static void feed(uint8_t port, uint8_t byte) {
 /* Bytes of the line on a port up to the first that has an answer: how many. */
 static size_t feed_some(uint8_t port, const uint8_t *at, size_t length) {
     const uint8_t sending0 = sending(), sending1 = sending();
-    size_t n = 0;
-    while (n < length) {
-        if (wheel_byte(&wheel, port, at[n++], sending0, sending1) != WHEEL_TAKEN) {
-            break;
-        }
-    }
+    const size_t n = wheel_bytes(&wheel, port, at, length, sending0, sending1);
     after(port);
     bytes(wheel.ports[port].message, WHEEL_MESSAGE);
     word((uint32_t)n);

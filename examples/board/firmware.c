@@ -120,17 +120,6 @@ static void show_control(void) {
     __builtin_memcpy(edac + SPEED, &turning, sizeof turning);
 }
 
-/* Gives the unit bytes of a port up to the first that has an answer: how many it took. */
-static size_t give(uint8_t port, const uint8_t *bytes, size_t length) {
-    size_t taken = 0;
-    while (taken < length) {
-        if (wheel_byte(&wheel, port, bytes[taken++], lines[0].sending, lines[1].sending) != WHEEL_TAKEN) {
-            break;
-        }
-    }
-    return taken;
-}
-
 /* Sends the reply of the last call, if it has one. Its port was silent when that call was made, and nobody else makes it send. */
 static void send_reply(void) {
     uint8_t port;
@@ -159,7 +148,7 @@ static void serve(uint8_t port) {
         return;
     }
     show_control();
-    line->got += give(port, bytes, length);
+    line->got += wheel_bytes(&wheel, port, bytes, length, lines[0].sending, lines[1].sending); /* up to the first with an answer */
     send_reply();
     if (!(line->uart->control & RECEIVED_CALLS)) { /* the ring was full: the byte that waits in the UART calls no more */
         interrupts_off();
