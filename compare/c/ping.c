@@ -4,7 +4,11 @@
 
 #include <stdio.h>
 
-static uint8_t edac[WHEEL_EDAC], bootloader[65536], user[65536];
+#ifndef FRAM
+#define FRAM 65536 /* bytes of each FRAM: a multiple of WHEEL_FRAM_BLOCK */
+#endif
+
+static uint8_t edac[WHEEL_EDAC], bootloader[FRAM], user[FRAM];
 static uint16_t bootloader_sums[sizeof bootloader / WHEEL_FRAM_BLOCK], user_sums[sizeof user / WHEEL_FRAM_BLOCK];
 static struct wheel wheel = {.edac = edac,
                              .bootloader = {bootloader, sizeof bootloader, bootloader_sums},

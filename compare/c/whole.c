@@ -25,6 +25,7 @@ static uint32_t diagnostics[WHEEL_DIAGNOSTICS];
 static struct wheel_port ports[2];
 static unsigned long calls, came[NUMBERS], replies[2], locked_calls, costly_calls, thrown_calls;
 
+/* No expression asks for two numbers but by `?`: C leaves it to the compiler which of two operands comes first. */
 static uint32_t any(uint32_t below) {
     static uint64_t state = 7;
     state = state * 6364136223846793005u + 1442695040888963407u;
@@ -95,7 +96,7 @@ static void feed(uint8_t port, uint8_t byte) {
 /* An address in or near either FRAM, low byte first. */
 static void put_address(uint8_t *data) {
     const uint32_t first = any(2) ? WHEEL_BOOTLOADER_FRAM_FIRST : WHEEL_USER_FRAM_FIRST;
-    const uint32_t address = first + any(BLOCKS * WHEEL_FRAM_BLOCK) - (any(8) ? 0 : 4);
+    const uint32_t below = any(8) ? 0 : 4, address = first - below + any(BLOCKS * WHEEL_FRAM_BLOCK);
     for (int i = 0; i < 4; i++) {
         data[i] = (uint8_t)(address >> 8 * i);
     }
@@ -131,7 +132,8 @@ static void send(uint8_t port) {
     static const uint8_t wrongs[] = {0x55, 0xC0, 0xDB};
     static uint8_t bytes[WHEEL_MESSAGE], line[WHEEL_REPLY];
     const unsigned code = any(13);
-    bytes[0] = (uint8_t)(heard[any(16) ? port : !port][any(2)] + (any(16) ? plain.unit.strap : any(8)));
+    const unsigned by = any(16) ? port : !port, answered = any(2), strap = any(16) ? plain.unit.strap : any(8);
+    bytes[0] = (uint8_t)(heard[by][answered] + strap);
     bytes[1] = 0x11;
     bytes[2] = (uint8_t)((any(4) ? 0x80 : 0x00) + code);
     const size_t end = 3 + put_data(code, bytes + 3);
@@ -143,7 +145,8 @@ static void send(uint8_t port) {
     for (size_t i = 0; i < packed.sent; i++) {
         feed(port, i != wrong ? line[i] : wrongs[any(3)]);
         if (any(32) == 0) {
-            feed(any(16) ? !port : (uint8_t)(2 + any(254)), wrongs[any(3)]);
+            const uint8_t other = any(16) ? !port : (uint8_t)(2 + any(254));
+            feed(other, wrongs[any(3)]);
         }
     }
 }
@@ -152,10 +155,12 @@ int main(void) {
     feed(0, 0xC0); /* before any set-up */
     for (unsigned i = 0; i < MESSAGES; i++) {
         if (any(plain.unit.bootloader_len ? 20 : 2) == 0) { /* soon after a set-up that was refused */
-            whole.bootloader.length = (1 + any(BLOCKS)) * WHEEL_FRAM_BLOCK - (any(8) ? 0 : 1);
-            whole.user.length = (1 + any(BLOCKS)) * WHEEL_FRAM_BLOCK - (any(8) ? 0 : 1);
+            const size_t less0 = any(8) ? 0 : 1, less1 = any(8) ? 0 : 1;
+            whole.bootloader.length = (1 + any(BLOCKS)) * WHEEL_FRAM_BLOCK - less0;
+            whole.user.length = (1 + any(BLOCKS)) * WHEEL_FRAM_BLOCK - less1;
             feed(0, 0x55);
-            set_up((uint8_t)any(any(8) ? 8 : 256), any(8) ? 260 + any(769) : any(260), any(4) ? 0 : (uint8_t)any(256));
+            const uint8_t strap = (uint8_t)any(any(8) ? 8 : 256), locked = any(4) ? 0 : (uint8_t)any(256);
+            set_up(strap, any(8) ? 260 + any(769) : any(260), locked);
         }
         send((uint8_t)any(2));
     }
