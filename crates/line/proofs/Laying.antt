@@ -50,11 +50,10 @@ next-of message i h =
 
 module _ (message start reply : List ℕ) (at i : ℕ) (laid : Laid message start reply at i) where
   module _ (h : i < length message) where
-    pub a-byte-finds-room : length message ≤ messageSize → replySize ≤ length start → at + 1 < length reply
-    a-byte-finds-room m r =
+    pub a-byte-finds-room : length message ≤ messageSize → at + 1 < replySize
+    a-byte-finds-room m =
         omega (
           arith,
-          laid .long,
           laid .place,
           ap length (next-of message i h),
           length-append (escapedOf (getD message i 0)) (leftOf message (i + 1)),

@@ -82,10 +82,11 @@ fn searched(rows: &[[u16; 2]], at: usize) -> Run
     halved(&rows[19..], 10, EDAC_SIZE, at)
 }
 
-// The bytes that stand alike from an address on.
+// The bytes that stand alike from an address on. It goes through 16 bits, as the list has it, so that the wheel's processor, which has 32, compares
+// it by one word and not by two.
 pub fn run_from(at: usize) -> Run
     requires { ⌜ at < edacSize ⌝ }
     ensures { λ r. ⌜ r ≡ runOf at ⌝ }
 {
-    searched(&READ_ONLY, at)
+    searched(&READ_ONLY, at as u16 as usize)
 }

@@ -1,6 +1,8 @@
 -- `line::packing::put` meets its contract: each way through it is one of the three ways in which a byte is escaped.
 -- Assumes nothing.
 use borrow.Author.Needs.{needs}
+use native.Mathlib.Omega.{arith}
+use lib.ListN.{length-set}
 use Rattle.line.proofs.Escaping.{FEND-is-escaped, FESC-is-escaped, another-byte-stands-for-itself}
 use Rattle.line.proofs.Laying.{an-escape-is-laid, a-byte-is-laid}
 use Rattle.line.proofs.packing.put.Statement.{statement}
@@ -13,7 +15,7 @@ add-reply : tie.Need-add-reply
 add-reply c = search needs
 
 slice-write-reply-2 : tie.Need-slice-write-reply-2
-slice-write-reply-2 c = search needs
+slice-write-reply-2 c = simp length-set (omega arith)
 
 add-result : tie.Need-add-result
 add-result c = search needs
@@ -31,7 +33,7 @@ add-reply-2 : tie.Need-add-reply-2
 add-reply-2 c = search needs
 
 slice-write-reply-4 : tie.Need-slice-write-reply-4
-slice-write-reply-4 c = search needs
+slice-write-reply-4 c = simp length-set (omega arith)
 
 add-result-2 : tie.Need-add-result-2
 add-result-2 c = search needs
