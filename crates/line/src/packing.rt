@@ -26,7 +26,7 @@ pub enum Packed {
 }
 
 // One byte of the message, escaped where it must be; the answer is the next free place. There is room for an escape at every byte, so
-// that the loop over a message tests none. Places are counted in 32 bits, as the wheel's processor counts.
+// that the loop over a message tests none. Places are counted in 32 bits: those are one word of the wheel's processor, and a `usize` two.
 fn put(byte: u8, at: u32, reply: &mut [u8]) -> u32
     requires { ⌜ (at + 1 < replySize) × (replySize ≤ length (now reply)) ⌝ }
     ensures { λ r. ⌜ (r ≡ at + length (escapedOf byte)) × (now (reply .exit) ≡ sets (now (reply .entry)) at (escapedOf byte)) ⌝ }

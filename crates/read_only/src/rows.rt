@@ -82,8 +82,8 @@ fn searched(rows: &[[u16; 2]], at: usize) -> Run
     halved(&rows[19..], 10, EDAC_SIZE, at)
 }
 
-// The bytes that stand alike from an address on. It goes through 16 bits, as the list has it, so that the wheel's processor, which has 32, compares
-// it by one word and not by two.
+// The bytes that stand alike from an address on. The address goes through the 16 bits of the list's own, so that the wheel's processor, which
+// has 32, compares it in one word.
 pub fn run_from(at: usize) -> Run
     requires { ⌜ at < edacSize ⌝ }
     ensures { λ r. ⌜ r ≡ runOf at ⌝ }
