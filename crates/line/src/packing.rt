@@ -26,23 +26,25 @@ pub enum Packed {
 }
 
 // One byte of the message, escaped where it must be; the answer is the next free place. There is room for an escape at every byte, so
-// that the loop over a message tests none. Places are counted in 32 bits: those are one word of the wheel's processor, and a `usize` two.
+// that the loop over a message tests none. Places are counted in 32 bits, one word of the wheel's processor, where a `usize` takes two.
+// The three ways share the store of the last byte, so that a byte that stands for itself costs little more than that.
 fn put(byte: u8, at: u32, reply: &mut [u8]) -> u32
     requires { ⌜ (at + 1 < replySize) × (replySize ≤ length (now reply)) ⌝ }
     ensures { λ r. ⌜ (r ≡ at + length (escapedOf byte)) × (now (reply .exit) ≡ sets (now (reply .entry)) at (escapedOf byte)) ⌝ }
 {
+    let mut last = byte;
+    let mut place = at;
     if byte == FEND {
         reply[at as usize] = FESC;
-        reply[at as usize + 1] = TFEND;
-        return at + 2;
-    }
-    if byte == FESC {
+        last = TFEND;
+        place = at + 1;
+    } else if byte == FESC {
         reply[at as usize] = FESC;
-        reply[at as usize + 1] = TFESC;
-        return at + 2;
+        last = TFESC;
+        place = at + 1;
     }
-    reply[at as usize] = byte;
-    at + 1
+    reply[place as usize] = last;
+    place + 1
 }
 
 // The message as the line carries it, into the first part of the reply buffer. Which refusal comes first is 01's order.
@@ -66,9 +68,9 @@ pub fn pack(message: &[u8], reply: &mut [u8]) -> Packed
         at = put(message[i as usize], at, reply);
         i += 1;
     }
-    let last = at as usize;
-    reply[last] = FEND;
-    Packed::Sent(last + 1)
+    let end = at as usize;
+    reply[end] = FEND;
+    Packed::Sent(end + 1)
 }
 
 // The written first part of a reply buffer, handed back to be sent. An `n` past the end gives the whole.

@@ -69,8 +69,8 @@ loop-again c =
     (put .ensures .0)
     (put .ensures .1)
 
-cast-last : tie.Need-cast-last Inv-loop μ-loop
-cast-last c =
+cast-end : tie.Need-cast-end Inv-loop μ-loop
+cast-end c =
     let laid = c .before .loop .inv in
     omega (arith, the-last-byte-is-within-the-room _ _ _ _ _ laid (search needs) (search needs))
 
@@ -112,7 +112,7 @@ pack-spec =
     add-i
     loop-less
     loop-again
-    cast-last
+    cast-end
     slice-write-reply-2
     add-t7
     same-length
