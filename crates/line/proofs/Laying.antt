@@ -7,7 +7,7 @@ use mathlib.Core.List.{List, [], _∷_, _++_, append-assoc}
 use native.Mathlib.Numerals.{add-one}
 use native.Mathlib.Omega.{arith}
 use borrow.Author.Tests.{lt-ltb, le-ltb}
-use lib.ListN.{length, getD, set, drop, length-append, drop-of-length-le}
+use lib.ListN.{length, getD, set, drop, length-append, length-set, drop-of-length-le}
 use lib.Seq.{sets, length-sets, drop-cons}
 use Rattle.line.specs.Framing.{fend}
 use Rattle.line.specs.Packing.{escapedOf, bodyOf, packedOf, shortestMessage, messageSize, replySize, packingOf, packOf}
@@ -15,18 +15,35 @@ use Rattle.line.specs.declared.packing.Packed.the-variants.{Sent, ShortR
 use Rattle.line.proofs.Stores.{stores-follow-stores, stores-from-the-start}
 use Rattle.line.proofs.Escaping.{an-escaped-byte-is-one-or-two, the-room-is-enough-for-the-longest}
 
--- one byte of the message, at `at`
-module _ (byte at : ℕ) (reply : List ℕ) where
-  pub an-escape-is-laid
+-- one byte of the message, at `at`: what stands in the reply buffer, and where its last byte goes, once all before the last is written
+pub record Begun (byte at : ℕ) (start reply : List ℕ) (place last : ℕ) : Type 0 where
+  pub near : place ≤ at + 1
+  pub long : length reply ≡ length start
+  pub next : place + 1 ≡ at + length (escapedOf byte)
+  pub left : set reply place last ≡ sets start at (escapedOf byte)
+
+module _ (byte at : ℕ) (start reply : List ℕ) (place last : ℕ) where
+  pub an-escape-is-begun
       : (a b : ℕ)
       → escapedOf byte ≡ a ∷ b ∷ []
-      → (at + 2 ≡ at + length (escapedOf byte)) × (set (set reply at a) (at + 1) b ≡ sets reply at (escapedOf byte))
-  an-escape-is-laid a b e = rw (e, add-one) (refl, refl)
+      → reply ≡ set start at a
+      → last ≡ b
+      → place ≡ at + 1
+      → Begun byte at start reply place last
+  an-escape-is-begun a b e r l p = record {
+    near = omega (arith, p);
+    long = rw (r, length-set);
+    next = omega (arith, p, ap length e);
+    left = rw (r, l, p, e, add-one);
+  }
 
-  pub a-byte-is-laid
+  pub a-byte-is-begun
       : escapedOf byte ≡ byte ∷ []
-      → (at + 1 ≡ at + length (escapedOf byte)) × (set reply at byte ≡ sets reply at (escapedOf byte))
-  a-byte-is-laid e = rw e (refl, refl)
+      → reply ≡ start
+      → last ≡ byte
+      → place ≡ at
+      → Begun byte at start reply place last
+  a-byte-is-begun e r l p = record { near = omega (arith, p); long = rw r; next = omega (arith, p, ap length e); left = rw (r, l, p, e) }
 
 -- what is still to be written when `i` bytes of the message are
 abbrev pub leftOf : List ℕ → ℕ → List ℕ
@@ -50,11 +67,10 @@ next-of message i h =
 
 module _ (message start reply : List ℕ) (at i : ℕ) (laid : Laid message start reply at i) where
   module _ (h : i < length message) where
-    pub a-byte-finds-room : length message ≤ messageSize → replySize ≤ length start → at + 1 < length reply
-    a-byte-finds-room m r =
+    pub a-byte-finds-room : length message ≤ messageSize → at + 1 < replySize
+    a-byte-finds-room m =
         omega (
           arith,
-          laid .long,
           laid .place,
           ap length (next-of message i h),
           length-append (escapedOf (getD message i 0)) (leftOf message (i + 1)),

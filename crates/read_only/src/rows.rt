@@ -82,10 +82,11 @@ fn searched(rows: &[[u16; 2]], at: usize) -> Run
     halved(&rows[19..], 10, EDAC_SIZE, at)
 }
 
-// The bytes that stand alike from an address on.
+// The bytes that stand alike from an address on. The address goes through the 16 bits of the list's own, so that the wheel's processor, which
+// has 32, compares it in one word.
 pub fn run_from(at: usize) -> Run
     requires { ⌜ at < edacSize ⌝ }
     ensures { λ r. ⌜ r ≡ runOf at ⌝ }
 {
-    searched(&READ_ONLY, at)
+    searched(&READ_ONLY, at as u16 as usize)
 }

@@ -12,6 +12,12 @@ use Rattle.read_only.proofs.rows.run_from.Tie as tie
 slice-aggregate-searched : tie.Need-slice-aggregate-searched
 slice-aggregate-searched c = search needs
 
+cast-searched : tie.Need-cast-searched
+cast-searched c = search needs
+
+cast-searched-2 : tie.Need-cast-searched-2
+cast-searched-2 c = search needs
+
 -- The list is in rising order without overlap.
 searched-requires : tie.Need-searched-requires
 unfolding searchable rising
@@ -25,4 +31,4 @@ returns c =
     ∙ the-list-gives-the-run _ (c .before .before .args .at) (what-is-searchable _ (searched-requires (c .before) (c .searched .lifetimes) .0) .0) (λ (i : ℕ). refl) (c .before .before .pre)
 
 pub run-from-spec : {M : Type 1} → statement M
-run-from-spec = tie.close (tie.spec slice-aggregate-searched searched-requires returns)
+run-from-spec = tie.close (tie.spec slice-aggregate-searched cast-searched cast-searched-2 searched-requires returns)
