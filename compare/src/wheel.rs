@@ -4,26 +4,8 @@
 use crate::record::Record;
 use crate::Part;
 
-/// An FRAM, with one kept sum for each block of 256 bytes.
-pub struct Fram<'a> {
-    pub bytes: &'a mut [u8],
-    pub sums: &'a mut [u16],
-}
-
-/// The two buffers of a port: of the message that comes in, and of the reply that leaves.
-pub struct Port<'a> {
-    pub message: &'a mut [u8],
-    pub reply: &'a mut [u8],
-}
-
-/// What a call is lent.
-pub struct Lent<'a> {
-    pub edac: &'a mut [u8],
-    pub bootloader: Fram<'a>,
-    pub user: Fram<'a>,
-    pub diagnostics: &'a mut [u32],
-    pub ports: [Port<'a>; 2],
-}
+/// What a call is lent, with its FRAMs and the buffers of its ports.
+pub use wheel_unit::{Fram, Lent, Port};
 
 /// One byte as the caller tells it (02, T-01): the port on which it came, and for each port whether it is sending now, which it
 /// is by any number but 0.

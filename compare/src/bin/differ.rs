@@ -16,7 +16,7 @@ const MEGABYTE: u64 = 1_000_000;
 const LONG: u64 = 10 * MEGABYTE;
 
 fn first() -> (&'static str, &'static dyn Wheel) {
-    ("the proved unit", &compare::unit::Proved)
+    ("the proved unit", &compare::proved::Proved)
 }
 
 /// How many bytes to feed, and the first seed.

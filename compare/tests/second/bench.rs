@@ -1,9 +1,9 @@
 //! A unit on a bench: everything that it is lent, and messages to and from it in the tests' own coding.
 
 use compare::plain;
+use compare::proved::Proved;
 pub use compare::record::PLACES;
 use compare::record::{Mode, Place, Receiver, Record, REFUSED};
-use compare::unit::Proved;
 use compare::wheel::{Fram, Heard, Lent, Port, Second, Stepped, Wheel};
 
 pub const FEND: u8 = 0xC0;
