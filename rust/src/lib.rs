@@ -39,5 +39,5 @@ mod wheel;
 
 pub use numbers::*;
 pub use plain::{crc, crc_from, Fram, Lent, Port};
-pub use records::{Joined, Packed, Part, Stepped, Unit};
+pub use records::{Joined, Many, Packed, Part, Stepped, Unit};
 pub use wheel::{judge_list, pack, store_list, Buffers, Lock, Memories, PortId, Reply, Wheel};

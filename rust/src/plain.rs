@@ -5,7 +5,7 @@
 //! they may be written, lent once. So each function here is safe as it stands.
 
 use crate::numbers::Answer;
-use crate::records::{Joined, Packed, Part, Stepped, Unit};
+use crate::records::{Joined, Many, Packed, Part, Stepped, Unit};
 
 /// An FRAM, with one sum for each block of [`FRAM_BLOCK`](crate::FRAM_BLOCK) bytes.
 #[derive(Debug)]
@@ -95,6 +95,35 @@ extern "C" {
         reply1_len: usize,
     ) -> Stepped;
 
+    fn wheel_steps(
+        unit: Unit,
+        port: u8,
+        bytes: *const u8,
+        bytes_len: usize,
+        sending0: u8,
+        sending1: u8,
+        edac: *mut u8,
+        edac_len: usize,
+        bootloader: *mut u8,
+        bootloader_len: usize,
+        bootloader_sums: *mut u16,
+        bootloader_sums_len: usize,
+        fram: *mut u8,
+        fram_len: usize,
+        sums: *mut u16,
+        sums_len: usize,
+        diagnostics: *mut u32,
+        diagnostics_len: usize,
+        message0: *mut u8,
+        message0_len: usize,
+        reply0: *mut u8,
+        reply0_len: usize,
+        message1: *mut u8,
+        message1_len: usize,
+        reply1: *mut u8,
+        reply1_len: usize,
+    ) -> Many;
+
     fn wheel_pack(
         message: *const u8,
         message_len: usize,
@@ -163,6 +192,44 @@ pub fn step(unit: Unit, port: u8, byte: u8, sending: [u8; 2], lent: Lent<'_>) ->
             unit,
             port,
             byte,
+            sending[0],
+            sending[1],
+            lent.edac.as_mut_ptr(),
+            lent.edac.len(),
+            lent.bootloader.bytes.as_mut_ptr(),
+            lent.bootloader.bytes.len(),
+            lent.bootloader.sums.as_mut_ptr(),
+            lent.bootloader.sums.len(),
+            lent.user.bytes.as_mut_ptr(),
+            lent.user.bytes.len(),
+            lent.user.sums.as_mut_ptr(),
+            lent.user.sums.len(),
+            lent.diagnostics.as_mut_ptr(),
+            lent.diagnostics.len(),
+            zero.message.as_mut_ptr(),
+            zero.message.len(),
+            zero.reply.as_mut_ptr(),
+            zero.reply.len(),
+            one.message.as_mut_ptr(),
+            one.message.len(),
+            one.reply.as_mut_ptr(),
+            one.reply.len(),
+        )
+    }
+}
+
+/// Bytes that came in on a port, one after the other as [`step`] takes them, up to the first answer other than
+/// [`Answer::TAKEN`]: what the last that was taken gave back, and how many were, that one included. A refused call loses one byte.
+/// With no bytes the record comes back as it is read, and nothing is refused.
+pub fn steps(unit: Unit, port: u8, bytes: &[u8], sending: [u8; 2], lent: Lent<'_>) -> Many {
+    let [zero, one] = lent.ports;
+    // SAFETY: each pointer and length are of one slice, and a slice that may be written overlaps no other.
+    unsafe {
+        wheel_steps(
+            unit,
+            port,
+            bytes.as_ptr(),
+            bytes.len(),
             sending[0],
             sending[1],
             lent.edac.as_mut_ptr(),

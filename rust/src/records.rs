@@ -58,6 +58,16 @@ pub struct Stepped {
     pub cost: u32,
 }
 
+/// What a call with many bytes gives back (`struct wheel_many`).
+#[derive(Clone, Copy, Debug, PartialEq, Eq)]
+#[repr(C)]
+pub struct Many {
+    /// What the last byte that was taken gave back.
+    pub last: Stepped,
+    /// How many bytes were taken, the one with that answer included.
+    pub taken: u64,
+}
+
 /// What packing gives back (`struct wheel_packed`).
 #[derive(Clone, Copy, Debug, PartialEq, Eq)]
 #[repr(C)]
@@ -108,6 +118,10 @@ const _: () = {
     assert!(offset_of!(Stepped, answer) == 48);
     assert!(offset_of!(Stepped, port) == 49);
     assert!(offset_of!(Stepped, cost) == 52);
+
+    assert!(size_of::<Many>() == 64 && align_of::<Many>() == 8);
+    assert!(offset_of!(Many, last) == 0);
+    assert!(offset_of!(Many, taken) == 56);
 
     assert!(size_of::<Packed>() == 16 && align_of::<Packed>() == 8);
     assert!(offset_of!(Packed, sent) == 0);

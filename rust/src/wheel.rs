@@ -150,6 +150,16 @@ impl<'a> Wheel<'a> {
         self.now.answer
     }
 
+    /// Bytes that came in on a port, up to the first answer other than [`Answer::TAKEN`]: how many were taken, that one included,
+    /// and the answer. The reply, if there is one, is to be read before the rest is given.
+    pub fn bytes(&mut self, port: PortId, bytes: &[u8], sending: [bool; 2]) -> (usize, Answer) {
+        let lent = lent(&mut self.memories, self.buffers);
+        let sending = sending.map(u8::from);
+        let many = plain::steps(self.now.unit, port as u8, bytes, sending, lent);
+        self.now = many.last;
+        (many.taken as usize, many.last.answer)
+    }
+
     /// What the last call gives to be sent. It stands there until another reply leaves on that port, which none does while the
     /// port is told to be sending.
     pub fn reply(&self) -> Option<Reply<'_>> {

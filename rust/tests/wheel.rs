@@ -111,6 +111,37 @@ fn a_reply_for_a_port_that_is_sending_is_lost() {
 }
 
 #[test]
+fn many_bytes_stop_at_the_first_answer() {
+    let mut board = Board::new();
+    let mut wheel = board.wheel();
+    let line = [&PING[..], &P6, &[0x55]].concat();
+    let mut rest = &line[..];
+    assert_eq!(wheel.bytes(PortId::Zero, &[], QUIET), (0, Answer::TAKEN));
+    for port in [PortId::Zero, PortId::One] {
+        let (taken, answer) = wheel.bytes(PortId::Zero, rest, QUIET);
+        assert_eq!((taken, answer), (7, Answer::ACKED));
+        let reply = wheel.reply().expect("a reply");
+        assert_eq!((reply.port, reply.bytes.len()), (port, 24));
+        rest = &rest[taken..];
+    }
+    assert_eq!(wheel.bytes(PortId::Zero, rest, QUIET), (1, Answer::TAKEN));
+    assert_eq!((wheel.answer(), wheel.reply()), (Answer::TAKEN, None));
+    assert_eq!(wheel.unit().count0, 1);
+    // A message in two calls, its second part while the port of its reply is sending.
+    let (answer, sending) = (Answer::DONE_SILENT, [false, true]);
+    assert_eq!(
+        wheel.bytes(PortId::Zero, &P6[..1], QUIET),
+        (1, Answer::RUNT)
+    );
+    assert_eq!(
+        wheel.bytes(PortId::Zero, &P6[1..4], QUIET),
+        (3, Answer::TAKEN)
+    );
+    assert_eq!(wheel.bytes(PortId::Zero, &P6[4..], sending), (3, answer));
+    assert_eq!(wheel.reply(), None);
+}
+
+#[test]
 fn what_set_up_refuses() {
     let mut board = Board::new();
     let mut begun = |strap, limit| board.begin(strap, limit, Lock::Unlocked).err();
