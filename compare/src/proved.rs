@@ -1,7 +1,7 @@
 //! The proved unit, by the crate wheel-unit as anyone links it, as a wheel that can be compared.
 
 use crate::record::{Mode, Place, Receiver, Record};
-use crate::wheel::{Heard, Lent, Stepped, Wheel};
+use crate::wheel::{Heard, HeardMany, Lent, Many, Stepped, Wheel};
 use crate::Part;
 use wheel_unit::{plain, Answer, Unit};
 
@@ -75,6 +75,14 @@ impl Wheel for Proved {
 
     fn step(&self, record: Record, heard: Heard, lent: Lent) -> Stepped {
         plain::step(record.into(), heard.port, heard.byte, heard.sending, lent).into()
+    }
+
+    fn steps(&self, record: Record, heard: HeardMany, lent: Lent) -> Many {
+        let many = plain::steps(record.into(), heard.port, heard.bytes, heard.sending, lent);
+        Many {
+            last: many.last.into(),
+            taken: length(many.taken),
+        }
     }
 
     fn pack(&self, message: &[u8], reply: &mut [u8]) -> (u8, usize) {

@@ -1,5 +1,5 @@
-//! Any wheel that can be compared: set-up, one byte, packing, joining, and judging and storing a list of files, over what it
-//! is lent.
+//! Any wheel that can be compared: set-up, one byte, many bytes, packing, joining, and judging and storing a list of files, over
+//! what it is lent.
 
 use crate::record::Record;
 use crate::Part;
@@ -27,10 +27,27 @@ pub struct Stepped {
     pub cost: u32,
 }
 
+/// Many bytes of one port, told in one call, and for each port whether it is sending.
+#[derive(Clone, Copy, Debug, PartialEq, Eq)]
+pub struct HeardMany<'a> {
+    pub port: u8,
+    pub bytes: &'a [u8],
+    pub sending: [u8; 2],
+}
+
+/// What they come to: what the last that was taken handed back, and how many were.
+#[derive(Clone, Copy, Debug, PartialEq, Eq)]
+pub struct Many {
+    pub last: Stepped,
+    pub taken: usize,
+}
+
 pub trait Wheel {
     /// Bootloader FRAM is locked where `locked` is any number but 0.
     fn set_up(&self, strap: u8, limit: u64, locked: u8, lent: Lent) -> Stepped;
     fn step(&self, record: Record, heard: Heard, lent: Lent) -> Stepped;
+    /// Bytes up to the first answer other than 0, which is that of the last byte taken.
+    fn steps(&self, record: Record, heard: HeardMany, lent: Lent) -> Many;
     /// The answer and the length of the packed message.
     fn pack(&self, message: &[u8], reply: &mut [u8]) -> (u8, usize);
     /// The joined part, or the number of the refusal.
@@ -65,6 +82,15 @@ macro_rules! wheel_of_module {
                 lent: $crate::wheel::Lent,
             ) -> $crate::wheel::Stepped {
                 $($module)::+::step(record, heard, lent)
+            }
+
+            fn steps(
+                &self,
+                record: $crate::record::Record,
+                heard: $crate::wheel::HeardMany,
+                lent: $crate::wheel::Lent,
+            ) -> $crate::wheel::Many {
+                $($module)::+::steps(record, heard, lent)
             }
 
             fn pack(&self, message: &[u8], reply: &mut [u8]) -> (u8, usize) {
