@@ -27,6 +27,7 @@ static struct wheel_port ports[2];
 static unsigned long calls, came[NUMBERS], replies[2], locked_calls, costly_calls, thrown_calls;
 static unsigned long empty_calls, whole_calls, stopped_calls;
 
+/* No expression asks for two numbers but by `?`: C leaves it to the compiler which of two operands comes first. */
 static uint32_t any(uint32_t below) {
     static uint64_t state = 7;
     state = state * 6364136223846793005u + 1442695040888963407u;
@@ -121,7 +122,7 @@ static size_t feed_many(uint8_t port, const uint8_t *bytes, size_t length) {
 /* An address in or near either FRAM, low byte first. */
 static void put_address(uint8_t *data) {
     const uint32_t first = any(2) ? WHEEL_BOOTLOADER_FRAM_FIRST : WHEEL_USER_FRAM_FIRST;
-    const uint32_t address = first + any(BLOCKS * WHEEL_FRAM_BLOCK) - (any(8) ? 0 : 4);
+    const uint32_t below = any(8) ? 0 : 4, address = first - below + any(BLOCKS * WHEEL_FRAM_BLOCK);
     for (int i = 0; i < 4; i++) {
         data[i] = (uint8_t)(address >> 8 * i);
     }
@@ -158,7 +159,8 @@ static size_t put_line(uint8_t port, uint8_t *line) {
                                         {WHEEL_1_ANSWERED_ON_1, WHEEL_1_ANSWERED_ON_0}};
     static uint8_t bytes[WHEEL_MESSAGE];
     const unsigned code = any(13);
-    bytes[0] = (uint8_t)(heard[any(16) ? port : !port][any(2)] + (any(16) ? plain.unit.strap : any(8)));
+    const unsigned by = any(16) ? port : !port, answered = any(2), strap = any(16) ? plain.unit.strap : any(8);
+    bytes[0] = (uint8_t)(heard[by][answered] + strap);
     bytes[1] = 0x11;
     bytes[2] = (uint8_t)((any(4) ? 0x80 : 0x00) + code);
     const size_t end = 3 + put_data(code, bytes + 3);
@@ -167,13 +169,17 @@ static size_t put_line(uint8_t port, uint8_t *line) {
     bytes[end + 1] = (uint8_t)(sum >> 8);
     const struct wheel_packed packed = wheel_pack(bytes, end + 2, line, WHEEL_REPLY);
     if (any(8) == 0) {
-        line[any((uint32_t)packed.sent)] = wrongs[any(3)];
+        const uint32_t wrong = any((uint32_t)packed.sent);
+        line[wrong] = wrongs[any(3)];
     }
     return (size_t)packed.sent;
 }
 
 /* A byte of the other port, or one of a port that there is not. */
-static void between(uint8_t port) { feed(any(16) ? !port : (uint8_t)(2 + any(254)), wrongs[any(3)]); }
+static void between(uint8_t port) {
+    const uint8_t other = any(16) ? !port : (uint8_t)(2 + any(254));
+    feed(other, wrongs[any(3)]);
+}
 
 /* A message byte by byte. Now and then a byte of another port comes in between. */
 static void send(uint8_t port) {
@@ -208,10 +214,12 @@ int main(void) {
     feed(0, 0xC0); /* before any set-up */
     for (unsigned i = 0; i < MESSAGES; i++) {
         if (any(plain.unit.bootloader_len ? 20 : 2) == 0) { /* soon after a set-up that was refused */
-            whole.bootloader.length = (1 + any(BLOCKS)) * WHEEL_FRAM_BLOCK - (any(8) ? 0 : 1);
-            whole.user.length = (1 + any(BLOCKS)) * WHEEL_FRAM_BLOCK - (any(8) ? 0 : 1);
+            const size_t less0 = any(8) ? 0 : 1, less1 = any(8) ? 0 : 1;
+            whole.bootloader.length = (1 + any(BLOCKS)) * WHEEL_FRAM_BLOCK - less0;
+            whole.user.length = (1 + any(BLOCKS)) * WHEEL_FRAM_BLOCK - less1;
             feed(0, 0x55);
-            set_up((uint8_t)any(any(8) ? 8 : 256), any(8) ? 260 + any(769) : any(260), any(4) ? 0 : (uint8_t)any(256));
+            const uint8_t strap = (uint8_t)any(any(8) ? 8 : 256), locked = any(4) ? 0 : (uint8_t)any(256);
+            set_up(strap, any(8) ? 260 + any(769) : any(260), locked);
         }
         if (any(2)) {
             send((uint8_t)any(2));
