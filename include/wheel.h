@@ -149,6 +149,12 @@ struct wheel_stepped {
     uint32_t cost;  /* of a CRC command that is done, its reply sent or not: 1 to WHEEL_COST_MOST; of all else 0 */
 };
 
+/* What many bytes a call give back: what the last of them that was taken gave back, and how many were taken. */
+struct wheel_many {
+    struct wheel_stepped last;
+    uint64_t taken;
+};
+
 /* What packing gives back: how many bytes are to be sent from the start of the reply buffer, and the number. */
 struct wheel_packed {
     uint64_t sent;
@@ -167,7 +173,7 @@ struct wheel_joined {
     struct wheel_part part;
 };
 
-/* The two calls on a unit are lent ten slices in one order: the memories, each FRAM with its sums behind it, then the
+/* The three calls on a unit are lent ten slices in one order: the memories, each FRAM with its sums behind it, then the
  * diagnostics, then the two buffers of port 0 and those of port 1. `fram` and `sums` alone are the user's. The FRAMs are of
  * one type, and so are the buffers: where the lengths agree, nothing tells a caller that exchanges them.
  *
@@ -201,6 +207,18 @@ struct wheel_stepped wheel_step(struct wheel_unit unit, uint8_t port, uint8_t by
                                 uint16_t *sums, size_t sums_len, uint32_t *diagnostics, size_t diagnostics_len,
                                 uint8_t *message0, size_t message0_len, uint8_t *reply0, size_t reply0_len,
                                 uint8_t *message1, size_t message1_len, uint8_t *reply1, size_t reply1_len);
+
+/* Many bytes that came in on a port, in one call: just what the same bytes come to by wheel_step one by one, with the record
+ * and all that is lent handed on, up to the first answer other than WHEEL_TAKEN. `taken` counts the byte of that answer too:
+ * the rest is for the next call, once its reply is on its way. Where every answer is WHEEL_TAKEN, all are taken. A call that
+ * is refused takes one byte, and loses it. With no bytes nothing changes, and the answer is WHEEL_TAKEN. The bytes must lie
+ * in nothing that is written. An ordinary byte costs a small part of what a call for it alone does (docs/MEASURED.md). */
+struct wheel_many wheel_steps(struct wheel_unit unit, uint8_t port, const uint8_t *bytes, size_t bytes_len, uint8_t sending0,
+                              uint8_t sending1, uint8_t *edac, size_t edac_len, uint8_t *bootloader, size_t bootloader_len,
+                              uint16_t *bootloader_sums, size_t bootloader_sums_len, uint8_t *fram, size_t fram_len,
+                              uint16_t *sums, size_t sums_len, uint32_t *diagnostics, size_t diagnostics_len,
+                              uint8_t *message0, size_t message0_len, uint8_t *reply0, size_t reply0_len,
+                              uint8_t *message1, size_t message1_len, uint8_t *reply1, size_t reply1_len);
 
 /* A message of 5 to 1,033 bytes, its CRC already on it, as the line carries it: FEND at both ends, escapes between. It knows of
  * no limit: a unit drops a message that is longer than its limit + 5. The reply buffer is WHEEL_REPLY bytes or more, else
@@ -259,8 +277,8 @@ struct wheel {
     struct wheel_port ports[2];
 };
 
-/* The three functions over it are C that the caller compiles: tested, and not proved. They lend what the struct has to
- * wheel_set_up and wheel_step and keep what comes back.
+/* The four functions over it are C that the caller compiles: tested, and not proved. They lend what the struct has to
+ * wheel_set_up, wheel_step and wheel_steps and keep what comes back.
  *
  * Sets the unit up, as wheel_set_up does: answers WHEEL_TAKEN, or why not. Before that every byte is WHEEL_BAD_FRAM. */
 static inline uint8_t wheel_begin(struct wheel *wheel, uint8_t strap, uint64_t limit, uint8_t locked) {
@@ -282,6 +300,20 @@ static inline uint8_t wheel_byte(struct wheel *wheel, uint8_t port, uint8_t byte
                             wheel->ports[0].reply, WHEEL_REPLY, wheel->ports[1].message, WHEEL_MESSAGE,
                             wheel->ports[1].reply, WHEEL_REPLY);
     return wheel->now.answer;
+}
+
+/* Many bytes that came in on a port, as wheel_steps takes them: answers how many were taken. The number of the last one's
+ * answer is now.answer; where `length` is more than was taken, the rest is for the next call. */
+static inline size_t wheel_bytes(struct wheel *wheel, uint8_t port, const uint8_t *bytes, size_t length, uint8_t sending0,
+                                 uint8_t sending1) {
+    struct wheel_many many =
+        wheel_steps(wheel->now.unit, port, bytes, length, sending0, sending1, wheel->edac, WHEEL_EDAC, wheel->bootloader.bytes,
+                    wheel->bootloader.length, wheel->bootloader.sums, wheel->bootloader.length / WHEEL_FRAM_BLOCK,
+                    wheel->user.bytes, wheel->user.length, wheel->user.sums, wheel->user.length / WHEEL_FRAM_BLOCK,
+                    wheel->diagnostics, WHEEL_DIAGNOSTICS, wheel->ports[0].message, WHEEL_MESSAGE, wheel->ports[0].reply,
+                    WHEEL_REPLY, wheel->ports[1].message, WHEEL_MESSAGE, wheel->ports[1].reply, WHEEL_REPLY);
+    wheel->now = many.last;
+    return (size_t)many.taken;
 }
 
 /* What the last call gives to be sent: where it stands, in `port` on which port, and in `length` how many bytes, 0 for

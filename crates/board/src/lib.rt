@@ -10,13 +10,16 @@ ghost use Rattle.line.specs.Packing.{packOf};
 ghost use Rattle.file_commands.specs.WriteFile.{judgeListOf, storage, storeListOf};
 ghost use Rattle.commanding.specs.World.{world};
 ghost use Rattle.unit.specs.Steps.{setUpOf, stepOf};
-ghost use Rattle.face.specs.Records.{lockIn, sendingIn, unitIn, returned, returnedBy, packingBy};
+ghost use Rattle.streaming.specs.Streams.{stepsOf};
+ghost use Rattle.face.specs.Records.{lockIn, sendingIn, unitIn, returned, returnedBy, returnedMany, returnedManyBy, packingBy};
 use face::WheelJoined;
+use face::WheelMany;
 use face::WheelPacked;
 use face::WheelPart;
 use face::WheelStepped;
 use face::WheelUnit;
 use face::converting::lock_in;
+use face::converting::many_out;
 use face::converting::sending_in;
 use face::converting::stepped_out;
 use face::converting::unit_in;
@@ -104,6 +107,45 @@ pub extern "C" fn wheel_step(
         unit_in(unit),
         port,
         byte,
+        sending_in(sending0, sending1),
+        edac,
+        bootloader,
+        bootloader_sums,
+        fram,
+        sums,
+        diagnostics,
+        message0,
+        reply0,
+        message1,
+        reply1,
+    ))
+}
+
+#[no_mangle]
+pub extern "C" fn wheel_steps(
+    unit: WheelUnit,
+    port: u8,
+    bytes: &[u8],
+    sending0: u8,
+    sending1: u8,
+    edac: &mut [u8],
+    bootloader: &mut [u8],
+    bootloader_sums: &mut [u16],
+    fram: &mut [u8],
+    sums: &mut [u16],
+    diagnostics: &mut [u32],
+    message0: &mut [u8],
+    reply0: &mut [u8],
+    message1: &mut [u8],
+    reply1: &mut [u8],
+) -> WheelMany
+    ensures { λ r. ⌜ returnedMany r (world (now (edac .exit)) (kept (now (bootloader .exit)) (now («bootloader_sums» .exit))) (kept (now (fram .exit)) (now (sums .exit))) (now (diagnostics .exit)) (now (message0 .exit)) (now (reply0 .exit)) (now (message1 .exit)) (now (reply1 .exit)))
+        ≡ returnedManyBy (stepsOf (unitIn unit) port (now (bytes .entry)) (sendingIn sending0 sending1) (world (now (edac .entry)) (kept (now (bootloader .entry)) (now («bootloader_sums» .entry))) (kept (now (fram .entry)) (now (sums .entry))) (now (diagnostics .entry)) (now (message0 .entry)) (now (reply0 .entry)) (now (message1 .entry)) (now (reply1 .entry)))) ⌝ }
+{
+    many_out(streaming::steps(
+        unit_in(unit),
+        port,
+        bytes,
         sending_in(sending0, sending1),
         edac,
         bootloader,

@@ -1,1 +1,2 @@
 pub mod FromC
+pub mod Many

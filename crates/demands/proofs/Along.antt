@@ -27,7 +27,8 @@ use Rattle.ports.specs.declared.Ports.{Ports}
 use Rattle.ports.specs.declared.Sending.{Sending}
 use Rattle.ports.specs.Sides.{sideOf, numberOfSide, Both, ofSide, put}
 use Rattle.ports.specs.Ports.{portOf, withPort, countOf, AfterByte, hearOf, isOpen}
-use Rattle.ports.proofs.Sides.{put-there}
+use Rattle.ports.proofs.Sides.{put-there, port-put}
+use Rattle.ports.proofs.Bytes.{heard-low, heard-long}
 use Rattle.judging.specs.declared.Unit.{Unit}
 use Rattle.judging.specs.declared.fitting.Fit.{Fit}
 use Rattle.judging.specs.declared.fitting.Fit.the-variants.{Fits, Unfit}
@@ -39,7 +40,7 @@ use Rattle.unit.specs.Steps.{servedOf, stepOf}
 use Rattle.demands.specs.Locking.{locks}
 use Rattle.demands.specs.Leaving.{heardPorts, heardMessages, hasReply, portsAfter, Leaves}
 use Rattle.demands.specs.Calls.{Call, lentTo, callOn, isOn, answering, fedOf, reachedBy, bytesOn, SendsNothingOn, NoReplyOn, delivering, lentLengths, Suits, AllSuit, Serves, comesTo}
-use Rattle.demands.proofs.Cases.{heardOn, unitHeard, worldHeard}
+use Rattle.unit.proofs.Heard.{heardOn, unitHeard, worldHeard, served-so}
 use Rattle.demands.proofs.DemandOne.{heard-of-one, what-every-answer-leaves}
 
 -- ---- a unit that goes on
@@ -74,18 +75,6 @@ all-suit-still side u v size (d ∷ calls) same all = ((λ on. suits-still side 
 
 -- ---- a call that is served
 
--- what it comes to, by what was heard
-pub served-so : (u : Unit) (number byte : ℕ) (sending : Sending) (w : World) → stepFit u number (lengthsOf w) ≡ Fits
-    → stepOf u number byte sending w ≡ comesTo (unitHeard u number byte w) (sideOf number) (heardOn u number byte w .heard) sending (worldHeard u number byte w)
-unfolding stepOf judgeOf receivedOf
-served-so u number byte sending w fits =
-    let side = sideOf number in
-    let got = heardOn u number byte w in
-    ap (λ f. let j = unless f u (w .buffers .messages) (amongBoth side (w .buffers .messages) (receivedOf u side byte (messageOf side w))) in
-    servedOf (j .unit) (j .verdict) sending (ofSide side (j .message)) (withMessages w (j .message))) fits
-    ∙ ap (λ m. servedOf (unitHeard u number byte w) (verdictOf (largestMessage (u .limit)) (u .strap) side (got .heard) m) sending (messageOf side (worldHeard u number byte w)) (worldHeard u number byte w))
-    (sym (put-there side (w .buffers .messages) (got .message)))
-
 pub lengths-lent : (side : Side) (message : List ℕ) (c : Call) → lengthsOf (lentTo side message c) ≡ lentLengths side (length message) c
 lengths-lent Zero message c = refl
 lengths-lent One message c = refl
@@ -116,10 +105,6 @@ other-side-named One number few other e =
     let zero : number ≡ 0 = omega (arith, few, other) in
     let z : Zero ≡ One = sym (simp (eq-eqb number 0 zero)) ∙ e in
     let o : _≡_ {A = ℕ} 0 1 = ap numberOfSide z in absurd (omega arith)
-
-pub port-put : (side : Side) (ports : Ports) (port : Port) → portOf side (withPort side ports port) ≡ port
-port-put Zero ports port = refl
-port-put One ports port = refl
 
 -- what is done to one port leaves the other
 other-port : (side at : Side) (ports : Ports) (port : Port) → (at ≡ side → ⊥) → portOf side (withPort at ports port) ≡ portOf side ports
@@ -163,18 +148,6 @@ count-kept side number at ports = either-way (λ p. countOf (portOf side p) ≡ 
     by Zero One = refl
     by One Zero = refl
     by One One = refl
-
--- one byte keeps a count below a bound
-heard-low : (largest bound : ℕ) → largest < bound → (port : Port) (byte : ℕ) (message : List ℕ) → countOf port ≤ bound → countOf (hearOf largest port byte message .port) ≤ bound
-unfolding hearOf
-heard-low largest bound above (Hearing r) byte message low = the-count-never-passes-a-bound-above-the-largest largest bound above (byte ∷ []) r message low
-heard-low largest bound above (Throwing count) byte message low =
-    either-way (λ (h : AfterByte). countOf (h .port) ≤ bound) (eqb byte fend) _ _ (λ _. omega arith) (λ _. low)
-
-heard-long : (largest : ℕ) (port : Port) (byte : ℕ) (message : List ℕ) → length (hearOf largest port byte message .message) ≡ length message
-unfolding hearOf
-heard-long largest (Hearing r) byte message = the-buffer-keeps-its-length largest (byte ∷ []) r message
-heard-long largest (Throwing count) byte message = either-way (λ (h : AfterByte). length (h .message) ≡ length message) (eqb byte fend) _ _ (λ _. refl) (λ _. refl)
 
 -- no message on the bus has a count that 26 refuses
 pub above-every-message : (limit : ℕ) → isLimit limit ≡ true → largestMessage limit < largestCount

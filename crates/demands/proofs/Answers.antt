@@ -26,7 +26,7 @@ use Rattle.replying.specs.Replies.{polls, codeOf, replyMessage, Said, saying, s
 use Rattle.replying.specs.Ports.{fateOfReply, fateOf, silentOf, SaidOn, saidOn, saidOnOf}
 use Rattle.commanding.specs.World.{World, Outcome, outcome, costing, withStanding, withDiagnostics, withReplies, heldOf, withHeld}
 use Rattle.commanding.specs.Commanded.{leavesOn, answered}
-use Rattle.demands.proofs.Cases.{put-back}
+use Rattle.ports.proofs.Sides.{put-back}
 
 -- a command that is spoken of, done or refused: how it is answered aloud and silently, and the message of its reply
 pub record Spoken (destination source control : ℕ) (field : List ℕ) (o : Ending Held) (aloud : ℕ → Answer) (silent : Answer) (message : List ℕ) : Type 0 where

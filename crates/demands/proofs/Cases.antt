@@ -19,6 +19,7 @@ use Rattle.ports.specs.declared.Side.the-variants.{Zero, One}
 use Rattle.ports.specs.Sides.{sideOf, Both, ofSide, put}
 use Rattle.ports.specs.Ports.{answeredOn, portOf, withPort, countOf, AfterByte, hearOf, firstCount, isSending}
 use Rattle.ports.proofs.Sides.{put-there}
+use Rattle.judging.proofs.Numbers.{of-any-length}
 use Rattle.memory.specs.Bytes.{stretch}
 use Rattle.memory.specs.Counts.{channels, countedUp}
 use Rattle.memory.specs.Edac.{edacSize}
@@ -39,6 +40,7 @@ use Rattle.replying.specs.Replies.{codeOf}
 use Rattle.commanding.specs.World.{World, messageOf, lengthsOf, Outcome, outcome, withMessages, withMessage, withDiagnostics}
 use Rattle.commanding.specs.Commanded.{orderedOf, commandedOf}
 use Rattle.unit.specs.Steps.{servedOf, stepOf}
+use Rattle.unit.proofs.Heard.{heardOn, unitHeard, worldHeard}
 use Rattle.demands.specs.Calls.{comesTo}
 use Rattle.demands.specs.Locking.{locksBy, locks}
 use Rattle.demands.specs.Leaving.{SetUpRefusal}
@@ -86,22 +88,6 @@ module _ (P : Bool → Outcome → Type 0) (u : Unit) (side : Side) (sending : S
 
 -- ---- any call
 
--- a message buffer put back where it was
-pub put-back : {A : Type 0} (side : Side) (two : Both A) → put side two (ofSide side two) ≡ two
-put-back Zero two = refl
-put-back One two = refl
-
--- what the byte leaves of its port and its message buffer
-abbrev pub heardOn : Unit → ℕ → ℕ → World → AfterByte
-heardOn u number byte w = hearOf (largestMessage (u .limit)) (portOf (sideOf number) (u .ports)) byte (messageOf (sideOf number) w)
-
--- and the unit and what is lent, once it is received
-abbrev pub unitHeard : Unit → ℕ → ℕ → World → Unit
-unitHeard u number byte w = withPorts u (withPort (sideOf number) (u .ports) (heardOn u number byte w .port))
-
-abbrev pub worldHeard : Unit → ℕ → ℕ → World → World
-worldHeard u number byte w = withMessage (sideOf number) w (heardOn u number byte w .message)
-
 pub of-any-call : (P : Bool → Outcome → Type 0) (u : Unit) (number byte : ℕ) (sending : Sending) (w : World)
     → ((answer : Answer) → stepFit u number (lengthsOf w) ≡ Unfit answer → P false (outcome u answer w))
     → (stepFit u number (lengthsOf w) ≡ Fits → Each P (unitHeard u number byte w) (sideOf number) sending (worldHeard u number byte w))
@@ -122,40 +108,7 @@ of-any-call P u number byte sending w refused served = apart (stepFit u number (
         subst (λ (m : List ℕ). let verdict = verdictOf (largestMessage (u .limit)) (u .strap) side (got .heard) m in P (locksBy v verdict (messageOf side lent)) (servedOf v verdict sending (messageOf side lent) lent))
         (put-there side (w .buffers .messages) (got .message)) (of-anything-heard P v side sending lent (served e) (got .heard))
 
--- ---- the number of a refusal
-
--- what holds of each refusal by a length and of what comes after holds of all
-of-any-length : (P : Fit → Type 0) (strap : ℕ) (fits : Bool) (l : Lengths) (next : Fit)
-    → ((answer : Answer) → 20 ≤ numberOf answer → numberOf answer ≤ 25 → P (Unfit answer)) → P next → P (lengthsFit strap fits l next)
-unfolding lengthsFit
-of-any-length P strap fits l next unfit h =
-    either-way P (ltb lastStrap strap) _ _ (λ _. unfit BadStrap (omega arith) (omega arith))
-    (λ _. either-way P (eqb (l .edac) edacSize) _ _
-    (λ _. either-way P fits _ _
-    (λ _. either-way P (sumsFit l) _ _
-    (λ _. either-way P (eqb (l .diagnostics) channels) _ _
-    (λ _. either-way P (tooShort (l .message0) (l .reply0) || tooShort (l .message1) (l .reply1)) _ _ (λ _. unfit BadBuffers (omega arith) (omega arith)) (λ _. h))
-    (λ _. unfit BadDiagnostics (omega arith) (omega arith)))
-    (λ _. unfit BadSums (omega arith) (omega arith)))
-    (λ _. unfit BadFram (omega arith) (omega arith)))
-    (λ _. unfit BadEdac (omega arith) (omega arith)))
-
--- of a byte 20 or more, and it sends nothing
-abbrev High : Fit → Type 0
-High Fits = 0 ≤ 0
-High (Unfit answer) = 20 ≤ numberOf answer
-
-pub a-refused-step-has-its-number : (u : Unit) (number : ℕ) (l : Lengths) (answer : Answer) → stepFit u number l ≡ Unfit answer → 20 ≤ numberOf answer
-unfolding stepFit
-a-refused-step-has-its-number u number l answer e =
-    subst High e
-    (of-any-length High (u .strap) (framsAsSetUp u l) l (recordFit u number) (λ answer low high. low)
-    (either-way High (leb (countOf (u .ports .port0)) largestCount) _ (Unfit BadCount)
-    (λ _. either-way High (leb (countOf (u .ports .port1)) largestCount) _ (Unfit BadCount)
-    (λ _. either-way High (leb number 1) (limitFit (u .limit)) (Unfit BadPort)
-    (λ _. either-way High (isLimit (u .limit)) Fits (Unfit BadLimit) (λ _. omega arith) (λ _. omega arith)) (λ _. omega arith))
-    (λ _. omega arith))
-    (λ _. omega arith)))
+-- ---- the number of a refused set-up
 
 -- of set-up 20 to 25, or 29
 abbrev Refuses : ℕ → Fit → Type 0

@@ -44,7 +44,9 @@ use Rattle.unit.specs.Steps.{setUpAs, setUpOf, servedOf, stepOf}
 use Rattle.demands.specs.Calls.{Call, openedOn, Inside}
 use Rattle.demands.specs.Orders.{Way, met, Sends, withItsMessage, leftBy, cameTo}
 use Rattle.demands.specs.Costing.{Costs}
-use Rattle.demands.proofs.Cases.{unitHeard, worldHeard, of-any-call, a-refused-step-has-its-number}
+use Rattle.demands.proofs.Cases.{of-any-call}
+use Rattle.unit.proofs.Heard.{unitHeard, worldHeard}
+use Rattle.judging.proofs.Numbers.{a-refused-step-has-its-number}
 use Rattle.demands.proofs.Answers.{the-number-of-one-done, the-number-of-one-refused, the-number-of-one-unfitted, one-of-two}
 use Rattle.demands.proofs.Ranges.{ends-by, a-range-inside-names-its-FRAM}
 use Rattle.demands.proofs.Orders.{as-set-up-no-longer, what-a-sent-command-leaves, a-lent-FRAM-is-no-longer}

@@ -43,7 +43,9 @@ use Rattle.commanding.specs.Commanded.{answered}
 use Rattle.unit.specs.Steps.{nobody, setUpAs, setUpOf, servedOf, stepOf}
 use Rattle.demands.specs.Locking.{locks}
 use Rattle.demands.specs.Leaving.{heardPorts, heardMessages, hasReply, isUnsaid, isCommanded, countsAfter, shownLocked, oneMoreLost, portsAfter, Leaves, SetUpRefusal, SetUpLeaves}
-use Rattle.demands.proofs.Cases.{Each, unitHeard, worldHeard, of-any-call, a-refused-step-has-its-number, a-refused-set-up-has-its-number, a-refused-set-up-is-no-0}
+use Rattle.demands.proofs.Cases.{Each, of-any-call, a-refused-set-up-has-its-number, a-refused-set-up-is-no-0}
+use Rattle.unit.proofs.Heard.{unitHeard, worldHeard}
+use Rattle.judging.proofs.Numbers.{a-refused-step-has-its-number}
 use Rattle.demands.proofs.Answers.{Spoken, a-command-done, a-command-refused, left, with-no-reply, with-a-lost-reply, with-a-reply, with-nothing-fitted}
 
 -- nothing written is the written part of nothing

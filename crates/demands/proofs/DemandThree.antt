@@ -57,7 +57,8 @@ use Rattle.unit.specs.Steps.{setUpOf, stepOf}
 use Rattle.unit.proofs.Serving.{set-up-served}
 use Rattle.demands.specs.Calls.{Call, lentTo, fedOf, delivering, openedOn, lentLengths, Suits, Serves, Lending, its-memory, another, Own, own, ownOf, calledOf, Right, Inside}
 use Rattle.demands.specs.Orders.{Way, met, Sends, withItsMessage, leftBy, sentBy, replies, cameTo}
-use Rattle.demands.proofs.Cases.{unitHeard, worldHeard, of-any-call}
+use Rattle.demands.proofs.Cases.{of-any-call}
+use Rattle.unit.proofs.Heard.{unitHeard, worldHeard}
 use Rattle.demands.proofs.DemandOne.{what-every-answer-leaves}
 use Rattle.demands.proofs.Ranges.{ends-by, a-range-inside-names-its-FRAM}
 use Rattle.demands.proofs.Along.{above-every-message, a-call-keeps-the-counts-low}

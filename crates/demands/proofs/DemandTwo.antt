@@ -57,7 +57,9 @@ use Rattle.commanding.specs.Commanded.{answered, orderedOf, commandedOf}
 use Rattle.unit.specs.Steps.{servedOf, stepOf}
 use Rattle.demands.specs.Calls.{Call, lentTo, callOn, isOn, Fed, answering, fedOf, reachedBy, bytesOn, SendsNothingOn, NoReplyOn, openedOn, delivering, Suits, AllSuit, Serves, Idle, comesTo, answeredBy, addressedOf, answerMessage, Bytes}
 use Rattle.demands.specs.Orders.{sentBy}
-use Rattle.demands.proofs.Cases.{unitHeard, worldHeard, of-anything-heard, of-any-call, a-refused-step-has-its-number}
+use Rattle.demands.proofs.Cases.{of-anything-heard, of-any-call}
+use Rattle.unit.proofs.Heard.{unitHeard, worldHeard, quietly}
+use Rattle.judging.proofs.Numbers.{a-refused-step-has-its-number}
 use Rattle.demands.proofs.Answers.{Spoken, a-command-done, a-command-refused, with-no-reply, with-a-lost-reply, with-a-reply, with-nothing-fitted}
 use Rattle.demands.proofs.DemandOne.{high-sends}
 use Rattle.demands.proofs.Along.{Same, a-call-keeps-the-same, the-same-is-met, suits-still, all-suit-still, a-call-that-suits-fits, got, still-serves, served, idle-port-as-heard, message-as-heard, port-as-it-was, message-as-it-was, all-but-the-last}
@@ -129,14 +131,7 @@ unfolding hearOf receiveOf
 a-FEND-opens largest (Hearing r) message = (refl, refl)
 a-FEND-opens largest (Throwing count) message = (refl, refl)
 
--- and where no run is open it is only taken
-quietly : (u : Unit) (side : Side) (sending : Sending) (w : World) (h : Heard) → closesSome h ≡ false → comesTo u side h sending w ≡ outcome u Taken w
-unfolding servedOf verdictOf
-quietly u side sending w heard.Taken none = refl
-quietly u side sending w heard.Empty none = refl
-quietly u side sending w heard.Framing none = let z : true ≡ false = none in absurd (false≢true (sym z))
-quietly u side sending w (heard.Message count) none = let z : true ≡ false = none in absurd (false≢true (sym z))
-
+-- and where no run is open it closes none
 closes-nothing : (largest : ℕ) (port : Port) (message : List ℕ) → isOpen port ≡ false → closesSome (hearOf largest port fend message .heard) ≡ false
 unfolding hearOf receiveOf isOpen
 closes-nothing largest (Hearing r) message idle = idle

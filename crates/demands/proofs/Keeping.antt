@@ -37,7 +37,8 @@ use Rattle.commanding.specs.World.{World, lengthsOf, Outcome, withEdac, heldOf}
 use Rattle.commanding.specs.Commanded.{answered}
 use Rattle.unit.specs.Steps.{setUpAs, setUpOf, stepOf}
 use Rattle.demands.specs.Keeping.{EdacCall, setting-up, stepping, storing, edacLeft}
-use Rattle.demands.proofs.Cases.{unitHeard, worldHeard, of-any-call}
+use Rattle.demands.proofs.Cases.{of-any-call}
+use Rattle.unit.proofs.Heard.{unitHeard, worldHeard}
 use Rattle.demands.proofs.DemandThree.{Keeps, keeps-inside}
 
 -- ---- one command

@@ -38,7 +38,8 @@ use Rattle.judging.proofs.Ways.{an-oversize}
 use Rattle.commanding.specs.World.{World, messageOf, lengthsOf, Outcome, outcome, withMessages}
 use Rattle.unit.specs.Steps.{nobody, setUpOf, servedOf, stepOf}
 use Rattle.demands.specs.Calls.{Call, lentTo, callOn, openedOn, lentLengths, Suits, Serves, comesTo}
-use Rattle.demands.proofs.Cases.{of-any-call, a-refused-step-has-its-number}
+use Rattle.demands.proofs.Cases.{of-any-call}
+use Rattle.judging.proofs.Numbers.{a-refused-step-has-its-number}
 use Rattle.demands.proofs.DemandOne.{what-every-answer-leaves}
 use Rattle.demands.proofs.Along.{lengths-lent, served}
 

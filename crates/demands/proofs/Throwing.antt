@@ -32,7 +32,7 @@ use Rattle.ports.specs.declared.Answered.{Answered}
 use Rattle.ports.specs.declared.Answered.the-variants.{On, Nowhere}
 use Rattle.ports.specs.Sides.{sideOf, numberOfSide, ofSide}
 use Rattle.ports.specs.Ports.{answeredOn, portOf, withPort, countOf, AfterByte, hearing, hearOf, closesSome, isOpen, firstCount, thrownCount, lostCount}
-use Rattle.ports.proofs.Sides.{put-there}
+use Rattle.ports.proofs.Sides.{put-there, port-put}
 use Rattle.judging.specs.declared.Unit.{Unit}
 use Rattle.judging.specs.declared.fitting.Fit.{Fit}
 use Rattle.judging.specs.declared.fitting.Fit.the-variants.{Fits, Unfit}
@@ -45,9 +45,10 @@ use Rattle.unit.specs.Steps.{servedOf, stepOf}
 use Rattle.demands.specs.Leaving.{heardPorts, heardMessages, hasReply, isUnsaid, oneMoreLost, countsAfter, shownLocked, portsAfter}
 use Rattle.demands.specs.Locking.{locks}
 use Rattle.demands.specs.Calls.{Call, lentTo, callOn, isOn, Fed, answering, fedOf, reachedBy, bytesOn, openedOn, delivering, Suits, AllSuit, Serves, comesTo}
-use Rattle.demands.proofs.Cases.{heardOn, unitHeard, worldHeard, a-refused-step-has-its-number}
+use Rattle.unit.proofs.Heard.{heardOn, unitHeard, worldHeard, served-so}
+use Rattle.judging.proofs.Numbers.{a-refused-step-has-its-number}
 use Rattle.demands.proofs.DemandOne.{heard-of-one, what-every-answer-leaves}
-use Rattle.demands.proofs.Along.{served-so, port-put, a-call-keeps-the-same, suits-still, all-suit-still, still-serves, served, idle-port-as-it-was, message-as-it-was}
+use Rattle.demands.proofs.Along.{a-call-keeps-the-same, suits-still, all-suit-still, still-serves, served, idle-port-as-it-was, message-as-it-was}
 
 -- ---- as the reply leaves
 

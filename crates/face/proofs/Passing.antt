@@ -10,9 +10,12 @@ use Rattle.unit.specs.Steps.{setUpOf, stepOf}
 use Rattle.judging.specs.declared.Unit.{Unit}
 use Rattle.ports.specs.declared.Sending.{Sending}
 use Rattle.commanding.specs.declared.Stepped.{Stepped}
+use Rattle.streaming.specs.declared.Many.{Many}
+use Rattle.streaming.specs.Streams.{streamOf, stepsOf}
 use Rattle.face.specs.declared.WheelStepped.{WheelStepped}
+use Rattle.face.specs.declared.WheelMany.{WheelMany}
 use Rattle.face.specs.Face.{yesOut}
-use Rattle.face.specs.Records.{steppedOut, returned, returnedBy}
+use Rattle.face.specs.Records.{steppedOut, returned, returnedBy, returnedMany, returnedManyBy}
 
 passed-on
     : (r : WheelStepped) (stepped : Stepped) (after : World) (o : Outcome)
@@ -39,6 +42,16 @@ pub a-step-passed-on
     → returned r after ≡ returnedBy (stepOf meant port byte told before)
 a-step-passed-on r stepped after u meant port byte sending told before e due same flags =
     passed-on r stepped after (stepOf meant port byte told before) e (due ∙ ap₂ (λ v s. stepOf v port byte s before) same flags)
+
+pub many-bytes-passed-on
+    : (r : WheelMany) (many : Many) (after : World) (u meant : Unit) (port : ℕ) (bytes : List ℕ) (sending told : Sending) (before : World)
+    → r ≡ record { last = steppedOut (many .last .unit) (many .last .answer) (many .last .cost) (many .last .port); taken = many .taken }
+    → streamOf many after ≡ stepsOf u port bytes sending before
+    → u ≡ meant
+    → sending ≡ told
+    → returnedMany r after ≡ returnedManyBy (stepsOf meant port bytes told before)
+many-bytes-passed-on r many after u meant port bytes sending told before e due same flags =
+    ap (λ s. returnedMany s after) e ∙ ap returnedManyBy (due ∙ ap₂ (λ v s. stepsOf v port bytes s before) same flags)
 
 pub a-judgement-passed-on : (answer judged told : Bool) → answer ≡ judged → answer ≡ told → yesOut told ≡ yesOut judged
 a-judgement-passed-on answer judged told e is = ap yesOut (sym is ∙ e)

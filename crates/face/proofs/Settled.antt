@@ -1,4 +1,4 @@
--- The contracts of set-up, of a byte and of packing allow one outcome each, and a record that goes to C comes back as it was.
+-- The contracts of set-up, of a byte, of many bytes and of packing allow one outcome each, and a record that goes to C comes back as it was.
 -- Assumes nothing.
 use mathlib.Core.Path.{_≡_, refl, sym, ap, _∙_}
 use mathlib.Core.Bool.{Bool, true, false}
@@ -15,8 +15,10 @@ use Rattle.carrying.specs.declared.Mode.the-variants.{Bootloader, Application}
 use Rattle.commanding.specs.World.{World, Outcome}
 use Rattle.judging.specs.declared.Unit.{Unit}
 use Rattle.face.specs.declared.WheelStepped.{WheelStepped}
+use Rattle.streaming.specs.Streams.{Stream}
+use Rattle.face.specs.declared.WheelMany.{WheelMany}
 use Rattle.face.specs.declared.WheelPacked.{WheelPacked}
-use Rattle.face.specs.Records.{modeIn, modeOut, placeIn, placeOut, portIn, placeOutOf, lockIn, lockOut, unitIn, unitOut, Returned, returned, returnedBy, packingBy}
+use Rattle.face.specs.Records.{modeIn, modeOut, placeIn, placeOut, portIn, placeOutOf, lockIn, lockOut, unitIn, unitOut, Returned, returned, returnedBy, ReturnedMany, returnedMany, returnedManyBy, packingBy}
 
 pub a-call-allows-one-outcome
     : (o : Outcome) (r s : WheelStepped) (v w : World)
@@ -26,6 +28,15 @@ pub a-call-allows-one-outcome
 a-call-allows-one-outcome o r s v w a b =
     let same = a ∙ sym b in
     (ap (λ (l : Returned). l .stepped) same, ap (λ (l : Returned). l .world) same)
+
+pub many-bytes-allow-one-outcome
+    : (o : Stream) (r s : WheelMany) (v w : World)
+    → returnedMany r v ≡ returnedManyBy o
+    → returnedMany s w ≡ returnedManyBy o
+    → (r ≡ s) × (v ≡ w)
+many-bytes-allow-one-outcome o r s v w a b =
+    let same = a ∙ sym b in
+    (ap (λ (l : ReturnedMany). l .many) same, ap (λ (l : ReturnedMany). l .world) same)
 
 pub packing-allows-one-outcome
     : (p : Packing) (r s : WheelPacked) (l m : List ℕ)

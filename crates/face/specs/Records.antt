@@ -21,6 +21,8 @@ use Rattle.judging.specs.declared.Unit.{Unit}
 use Rattle.answer.specs.declared.Answer.{Answer}
 use Rattle.face.specs.declared.WheelUnit.{WheelUnit}
 use Rattle.face.specs.declared.WheelStepped.{WheelStepped}
+use Rattle.streaming.specs.Streams.{Stream}
+use Rattle.face.specs.declared.WheelMany.{WheelMany}
 use Rattle.face.specs.declared.WheelPacked.{WheelPacked}
 
 -- 0 is bootloader mode, and any other number application mode.
@@ -101,6 +103,18 @@ returned r w = record { stepped = r; world = w }
 
 abbrev pub returnedBy : Outcome → Returned
 returnedBy o = returned (steppedOut (o .unit) (o .answer) (o .cost) (o .port)) (o .world)
+
+-- The same of many bytes, with how many were taken.
+pub record ReturnedMany : Type 0 where
+  pub many : WheelMany
+  pub world : World
+
+abbrev pub returnedMany : WheelMany → World → ReturnedMany
+returnedMany r w = record { many = r; world = w }
+
+abbrev pub returnedManyBy : Stream → ReturnedMany
+returnedManyBy s =
+    let o = s .last in returnedMany (record { last = steppedOut (o .unit) (o .answer) (o .cost) (o .port); taken = s .taken }) (o .world)
 
 -- What packing gives back, with the reply buffer as it leaves it.
 abbrev pub packingBy : WheelPacked → List ℕ → Packing

@@ -1,4 +1,5 @@
 // C's numbers and records as the unit's, and back.
+use crate::WheelMany;
 use crate::WheelStepped;
 use crate::WheelUnit;
 use answer::number_of;
@@ -13,6 +14,7 @@ use ports::Ports;
 use ports::Sending;
 use ports::Side;
 use ports::count_of;
+use streaming::Many;
 ghost use mathlib.Core.Path.{_≡_};
 ghost use Rattle.ports.specs.Sides.{numberOfSide};
 ghost use Rattle.face.specs.Records.{modeIn, modeOut, placeIn, placeOut, portIn, placeOutOf, lockIn, lockOut, sendingIn, unitIn, unitOut, steppedOut};
@@ -171,5 +173,16 @@ pub fn stepped_out(stepped: Stepped) -> WheelStepped
         answer: number_of(answer),
         port: side_out(side),
         cost: stepped.cost,
+    }
+}
+
+pub fn many_out(many: Many) -> WheelMany
+    ensures { λ r. ⌜ r ≡ record { last = steppedOut (many .last .unit) (many .last .answer) (many .last .cost) (many .last .port); taken = many .taken } ⌝ }
+{
+    let stepped = many.last;
+    let last = stepped_out(stepped);
+    WheelMany {
+        last,
+        taken: many.taken as u64,
     }
 }

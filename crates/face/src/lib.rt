@@ -54,6 +54,13 @@ pub struct WheelStepped {
     pub cost: u32,
 }
 
+// What the last of many bytes gave back, and how many were taken.
+#[repr(C)]
+pub struct WheelMany {
+    pub last: WheelStepped,
+    pub taken: u64,
+}
+
 // How many bytes of the reply buffer are packed, and 01's number of packing.
 #[repr(C)]
 pub struct WheelPacked {

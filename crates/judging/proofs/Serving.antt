@@ -1,10 +1,10 @@
 -- What is known of a call that is not refused, and of each verdict. Assumes nothing.
-use mathlib.Core.Path.{_≡_, refl, sym}
+use mathlib.Core.Path.{_≡_, refl, sym, ap, _∙_}
 use mathlib.Core.Bool.{Bool, true, false, cond, _&&_, _||_, false≢true}
 use mathlib.Core.List.{List}
 use Prim.Native.Nat.{ℕ, _≤_}
 use native.Mathlib.Omega.{arith}
-use borrow.Author.Tests.{eqb-true, ltb-false, leb-true}
+use borrow.Author.Tests.{le-leb, eqb-true, ltb-false, leb-true}
 use lib.Dec.{eqb, leb, ltb}
 use lib.ListN.{getD}
 use Rattle.line.specs.declared.receiver.Heard.{Heard}
@@ -12,6 +12,7 @@ use Rattle.line.specs.declared.receiver.Heard.the-variants as heard
 use Rattle.line.specs.Packing.{shortestMessage, messageSize, replySize}
 use Rattle.ports.specs.declared.Side.{Side}
 use Rattle.ports.specs.declared.Side.the-variants.{Zero, One}
+use Rattle.ports.specs.declared.Ports.{Ports}
 use Rattle.ports.specs.declared.Answered.{Answered}
 use Rattle.ports.specs.declared.Answered.the-variants.{On, Nowhere}
 use Rattle.ports.specs.Sides.{sideOf, Both, both, ofSide}
@@ -30,7 +31,7 @@ use Rattle.judging.specs.declared.Verdict.the-variants.{Quiet, Dropped, 
 use Rattle.judging.specs.declared.fitting.Fit.{Fit}
 use Rattle.judging.specs.declared.fitting.Fit.the-variants.{Fits, Unfit}
 use Rattle.judging.specs.Fitting.{lastStrap, framFits, sumsFit, framsAsSetUp, largestCount, tooShort, limitFit, countFit, portFit, recordFit, lengthsFit, setUpFit, stepFit}
-use Rattle.judging.specs.Judging.{largestMessage, soundOf, commandOn, runOf, verdictOf, receivedOf, amongBoth, unless, judgeOf}
+use Rattle.judging.specs.Judging.{largestMessage, soundOf, commandOn, runOf, verdictOf, withPorts, receivedOf, amongBoth, unless, judgeOf}
 
 -- the tests that a call passed, as equations
 pub record Passed (strap : ℕ) (fits : Bool) (l : Lengths) (next : Fit) : Type 0 where
@@ -208,6 +209,17 @@ module _ (u : Unit) (number : ℕ) (l : Lengths) (e : stepFit u number l ≡ Fit
       let one = counted (countOf (u .ports .port1)) (portFit number (limitFit (u .limit))) (zero .1) in
       let port = named number (limitFit (u .limit)) (one .1) in
       record { count-0 = zero .0; count-1 = one .0; port = port .0; limit = limited (u .limit) (port .1) }
+
+-- other ports with counts that are not refused change nothing of that
+pub served-with-other-ports : (u : Unit) (number : ℕ) (l : Lengths) (ports : Ports) → stepFit u number l ≡ Fits → ((side : Side) → countOf (portOf side ports) ≤ largestCount)
+    → stepFit (withPorts u ports) number l ≡ Fits
+unfolding stepFit
+served-with-other-ports u number l ports e low =
+    let sound = a-served-record-is-sound u number l e in
+    let passed = passed-step u number l e in
+    let fits : recordFit (withPorts u ports) number ≡ Fits
+    = simp (le-leb (countOf (ports .port0)) largestCount (low Zero), le-leb (countOf (ports .port1)) largestCount (low One), le-leb number 1 (sound .port), sound .limit) in
+    ap (lengthsFit (u .strap) (framsAsSetUp u l) l) (fits ∙ sym (passed .next-tested)) ∙ e
 
 -- ---- what a verdict guarantees
 

@@ -117,7 +117,7 @@ pub fn count_of(port: Port) -> usize
 }
 
 // One byte that comes in on a port.
-fn hear(largest: u16, port: Port, byte: u8, message: &mut [u8]) -> Got
+pub fn hear(largest: u16, port: Port, byte: u8, message: &mut [u8]) -> Got
     ensures { λ r. ⌜ hearingOf r (now (message .exit)) ≡ hearOf largest port byte (now (message .entry)) ⌝ }
 {
     match port {
@@ -245,7 +245,7 @@ fn lost_count(side: Side) -> usize
 }
 
 // Whether a run is open in which any byte came.
-fn is_open(port: Port) -> bool
+pub fn is_open(port: Port) -> bool
     ensures { λ r. ⌜ r ≡ isOpen port ⌝ }
 {
     match port {
