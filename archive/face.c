@@ -46,6 +46,9 @@ FIELD(wheel_stepped, sent, 40, 8);
 FIELD(wheel_stepped, answer, 48, 1);
 FIELD(wheel_stepped, port, 49, 1);
 FIELD(wheel_stepped, cost, 52, 4);
+RECORD(wheel_many, 64, 8);
+FIELD(wheel_many, last, 0, 56);
+FIELD(wheel_many, taken, 56, 8);
 RECORD(wheel_packed, 16, 8);
 FIELD(wheel_packed, sent, 0, 8);
 FIELD(wheel_packed, answer, 8, 1);
@@ -67,8 +70,8 @@ uint16_t wheel_crc_by_address(const struct slice *bytes);
 uint16_t wheel_crc_from_by_address(uint16_t start, const struct slice *bytes);
 void wheel_join_by_address(struct wheel_joined *joined, const struct wheel_part *first, const struct wheel_part *second);
 void wheel_set_up_by_address(struct wheel_stepped *stepped, uint8_t strap, uint64_t limit, uint8_t locked, TEN_SLICES);
-void wheel_step_by_address(struct wheel_stepped *stepped, const struct wheel_unit *unit, uint8_t port, uint8_t byte,
-                           uint8_t sending0, uint8_t sending1, TEN_SLICES);
+void wheel_steps_by_address(struct wheel_many *many, const struct wheel_unit *unit, uint8_t port, const struct slice *bytes,
+                            uint8_t sending0, uint8_t sending1, TEN_SLICES);
 void wheel_pack_by_address(struct wheel_packed *packed, const struct slice *message, const struct slice *reply);
 uint8_t wheel_judge_list_by_address(uint64_t limit, const struct slice *list);
 uint8_t wheel_store_list_by_address(uint64_t limit, const struct slice *edac, const struct slice *list);
@@ -108,9 +111,20 @@ struct wheel_stepped wheel_step(struct wheel_unit unit, uint8_t port, uint8_t by
                                 uint16_t *sums, size_t sums_len, uint32_t *diagnostics, size_t diagnostics_len,
                                 uint8_t *message0, size_t message0_len, uint8_t *reply0, size_t reply0_len,
                                 uint8_t *message1, size_t message1_len, uint8_t *reply1, size_t reply1_len) {
-    struct wheel_stepped stepped;
-    wheel_step_by_address(&stepped, &unit, port, byte, sending0, sending1, THE_TEN);
-    return stepped;
+    struct wheel_many many;
+    wheel_steps_by_address(&many, &unit, port, &(struct slice){&byte, 1}, sending0, sending1, THE_TEN);
+    return many.last;
+}
+
+struct wheel_many wheel_steps(struct wheel_unit unit, uint8_t port, const uint8_t *bytes, size_t bytes_len, uint8_t sending0,
+                              uint8_t sending1, uint8_t *edac, size_t edac_len, uint8_t *bootloader, size_t bootloader_len,
+                              uint16_t *bootloader_sums, size_t bootloader_sums_len, uint8_t *fram, size_t fram_len,
+                              uint16_t *sums, size_t sums_len, uint32_t *diagnostics, size_t diagnostics_len,
+                              uint8_t *message0, size_t message0_len, uint8_t *reply0, size_t reply0_len,
+                              uint8_t *message1, size_t message1_len, uint8_t *reply1, size_t reply1_len) {
+    struct wheel_many many;
+    wheel_steps_by_address(&many, &unit, port, SLICE(bytes), sending0, sending1, THE_TEN);
+    return many;
 }
 
 struct wheel_packed wheel_pack(const uint8_t *message, size_t message_len, uint8_t *reply, size_t reply_len) {

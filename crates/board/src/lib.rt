@@ -124,7 +124,7 @@ pub extern "C" fn wheel_step(
 #[no_mangle]
 pub extern "C" fn wheel_steps(
     unit: WheelUnit,
-    port: u8,
+    number: u8,
     bytes: &[u8],
     sending0: u8,
     sending1: u8,
@@ -140,13 +140,14 @@ pub extern "C" fn wheel_steps(
     reply1: &mut [u8],
 ) -> WheelMany
     ensures { λ r. ⌜ returnedMany r (world (now (edac .exit)) (kept (now (bootloader .exit)) (now («bootloader_sums» .exit))) (kept (now (fram .exit)) (now (sums .exit))) (now (diagnostics .exit)) (now (message0 .exit)) (now (reply0 .exit)) (now (message1 .exit)) (now (reply1 .exit)))
-        ≡ returnedManyBy (stepsOf (unitIn unit) port (now (bytes .entry)) (sendingIn sending0 sending1) (world (now (edac .entry)) (kept (now (bootloader .entry)) (now («bootloader_sums» .entry))) (kept (now (fram .entry)) (now (sums .entry))) (now (diagnostics .entry)) (now (message0 .entry)) (now (reply0 .entry)) (now (message1 .entry)) (now (reply1 .entry)))) ⌝ }
+        ≡ returnedManyBy (stepsOf (unitIn unit) number (now (bytes .entry)) (sendingIn sending0 sending1) (world (now (edac .entry)) (kept (now (bootloader .entry)) (now («bootloader_sums» .entry))) (kept (now (fram .entry)) (now (sums .entry))) (now (diagnostics .entry)) (now (message0 .entry)) (now (reply0 .entry)) (now (message1 .entry)) (now (reply1 .entry)))) ⌝ }
 {
+    let told = sending_in(sending0, sending1);
     many_out(streaming::steps(
         unit_in(unit),
-        port,
+        number,
         bytes,
-        sending_in(sending0, sending1),
+        told,
         edac,
         bootloader,
         bootloader_sums,

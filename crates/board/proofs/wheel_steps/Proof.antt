@@ -51,14 +51,14 @@ same-length-10 c = search needs
 returns : tie.Need-returns
 returns c =
     let a = c .before .before .before .before .before .before .before .before .before .before .before .before .before .before .before .before .before .before .before .before .before .before .before .before .before .before .before .before .before .before .before .before .before .before .before .before .before .before .before .before .before .before .before .before .before .args in
-    many-bytes-passed-on _ (c .before .before .before .before .before .before .before .before .before .before .before .before .before .before .before .before .before .before .before .before .before .steps .result) _ _ _ (a .port) (a .bytes .now) _ _ (world (a .edac .now) (kept (a .bootloader .now) (a .bootloader-sums .now)) (kept (a .fram .now) (a .sums .now)) (a .diagnostics .now) (a .message0 .now) (a .reply0 .now) (a .message1 .now) (a .reply1 .now)) (c .many-out .ensures) (c .before .before .before .before .before .before .before .before .before .before .before .before .before .before .before .before .before .before .before .before .before .steps .ensures) (c .before .before .before .before .before .before .before .before .before .before .before .before .before .before .before .before .before .before .before .before .before .before .before .before .before .before .before .before .before .before .before .before .before .unit-in .ensures) (c .before .before .before .before .before .before .before .before .before .before .before .before .before .before .before .before .before .before .before .before .before .before .before .before .before .before .before .before .before .before .before .before .sending-in .ensures)
+    many-bytes-passed-on _ (c .before .before .before .before .before .before .before .before .before .before .before .before .before .before .before .before .before .before .before .before .before .steps .result) _ _ _ (a .number) (a .bytes .now) _ _ (world (a .edac .now) (kept (a .bootloader .now) (a .bootloader-sums .now)) (kept (a .fram .now) (a .sums .now)) (a .diagnostics .now) (a .message0 .now) (a .reply0 .now) (a .message1 .now) (a .reply1 .now)) (c .many-out .ensures) (c .before .before .before .before .before .before .before .before .before .before .before .before .before .before .before .before .before .before .before .before .before .steps .ensures) (c .before .before .before .before .before .before .before .before .before .before .before .before .before .before .before .before .before .before .before .before .before .before .before .before .before .before .before .before .before .before .before .before .unit-in .ensures) (c .before .before .before .before .before .before .before .before .before .before .before .before .before .before .before .before .before .before .before .before .before .before .before .before .before .before .before .before .before .before .before .before .before .sending-in .ensures)
 
 pub wheel-steps-spec : {M : Type 1} → statement M
 wheel-steps-spec =
     tie.close
     (tie.spec
-    unit-in-requires
     sending-in-requires
+    unit-in-requires
     steps-requires
     many-out-requires
     same-length
