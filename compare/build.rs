@@ -1,15 +1,9 @@
-//! Links the proved code, which comes from tools/archive, and writes a wrong copy of the second program for each edit in
-//! `mistakes.txt`, which the tests compare with the right one.
+//! Writes a wrong copy of the second program for each edit in `mistakes.txt`, which the tests compare with the right one.
 
 use std::path::Path;
 use std::{env, fs};
 
 fn main() {
-    let target = env::var("TARGET").expect("cargo names the target");
-    let folder = format!("{}/../target/archive/{target}", env!("CARGO_MANIFEST_DIR"));
-    println!("cargo:rustc-link-search=native={folder}");
-    println!("cargo:rustc-link-lib=static=board");
-    println!("cargo:rerun-if-changed={folder}/libboard.a");
     println!("cargo:rerun-if-changed=mistakes.txt");
     println!("cargo:rerun-if-changed=src/second");
     write_mistakes(Path::new(

@@ -1,7 +1,7 @@
 /* The C face's records across the boundary: every field of a record goes in and comes out as it was, with every other field
  * at odds with it; numbers out of range mean what the header says; every refusal has its number, costs nothing and changes nothing;
  * what a CRC command costs comes out beside the record and the number, and so does the port of a reply, which stands in the buffer
- * of that port. */
+ * of that port; and many bytes in a call come to what they come to one by one. */
 #include "wheel.h"
 
 #include <stdio.h>
@@ -55,6 +55,13 @@ static struct wheel_stepped step_on(uint8_t port, struct wheel_unit unit, uint8_
 
 static struct wheel_stepped step(struct wheel_unit unit, uint8_t byte, struct lengths n) { return step_on(0, unit, byte, n); }
 
+static struct wheel_many steps_on(uint8_t port, struct wheel_unit unit, const uint8_t *bytes, size_t length, struct lengths n) {
+    return wheel_steps(unit, port, bytes, length, sending[0], sending[1], lent.edac, n.edac, lent.bootloader, n.bootloader,
+                       lent.bootloader_sums, n.bootloader_sums, lent.fram, n.fram, lent.sums, n.sums, lent.diagnostics,
+                       n.diagnostics, lent.ports[0].message, n.message[0], lent.ports[0].reply, n.reply[0],
+                       lent.ports[1].message, n.message[1], lent.ports[1].reply, n.reply[1]);
+}
+
 static struct wheel_stepped set_up_as(uint8_t strap, uint64_t limit, uint8_t locked, struct lengths n) {
     return wheel_set_up(strap, limit, locked, lent.edac, n.edac, lent.bootloader, n.bootloader, lent.bootloader_sums,
                         n.bootloader_sums, lent.fram, n.fram, lent.sums, n.sums, lent.diagnostics, n.diagnostics,
@@ -93,6 +100,18 @@ static void silent(const char *name, struct wheel_stepped came, unsigned answer,
 
 static void refused(const char *name, struct wheel_stepped came, unsigned answer, struct wheel_unit due) {
     silent(name, came, answer, 0, due);
+}
+
+/* A call with three bytes that is refused, and so loses one of them, and with none, which nothing refuses: both hand the record back
+ * and change nothing. */
+static void lost(const char *name, uint8_t port, struct wheel_unit unit, struct lengths n, unsigned answer,
+                 struct wheel_unit due) {
+    static const uint8_t bytes[3] = {0xC0, 0x55, 0xC0};
+    const struct wheel_many some = steps_on(port, unit, bytes, sizeof bytes, n), none = steps_on(port, unit, bytes, 0, n);
+    same(name, some.taken, 1);
+    refused(name, some.last, answer, due);
+    same(name, none.taken, 0);
+    refused(name, none.last, WHEEL_TAKEN, due);
 }
 
 /* The record of a refused set-up. */
@@ -305,6 +324,7 @@ static void handed_back(void) {
             due.place1 = place_read(unit.place1);
             due.locked = unit.locked == WHEEL_UNLOCKED ? WHEEL_UNLOCKED : WHEEL_LOCKED;
             refused("a record", step_on((uint8_t)(n % 3), unit, (uint8_t)n, right), WHEEL_BAD_STRAP, due);
+            lost("a record and many bytes", (uint8_t)(n % 3), unit, right, WHEEL_BAD_STRAP, due);
         }
     }
     for (unsigned strap = 0; strap < 256; strap++) {
@@ -405,6 +425,117 @@ static void replies(struct wheel_unit fits) {
     sending[0] = sending[1] = WHEEL_SILENT;
 }
 
+/* Bytes in one call, and the same one by one with everything as it was: all that is given back, and all that is lent, must be the
+ * same. What is then to be in `before` is what the bytes left. */
+static struct wheel_many both_ways(const char *name, uint8_t port, struct wheel_unit unit, const uint8_t *bytes, size_t length) {
+    static struct lent first, left;
+    first = lent;
+    const struct wheel_many many = steps_on(port, unit, bytes, length, right);
+    left = lent;
+    lent = first;
+    struct wheel_stepped one = {.unit = unit};
+    size_t taken = 0;
+    while (taken < length && one.answer == WHEEL_TAKEN) {
+        one = step_on(port, one.unit, bytes[taken++], right);
+    }
+    same(name, many.taken, taken);
+    same(name, many.last.answer, one.answer);
+    same(name, many.last.sent, one.sent);
+    same(name, many.last.port, one.port);
+    same(name, many.last.cost, one.cost);
+    same_unit(name, many.last.unit, one.unit);
+    same(name, (unsigned long long)memcmp(&lent, &left, sizeof lent), 0);
+    before = lent;
+    return many;
+}
+
+/* A command as the line carries it, behind what stands in the line already, with a FEND more. */
+static size_t put_command(uint8_t *line, unsigned address, unsigned control, const uint8_t *data, size_t length) {
+    uint8_t message[32] = {(uint8_t)address, 0x11, (uint8_t)control};
+    memcpy(message + 3, data, length);
+    const uint16_t sum = wheel_crc(message, 3 + length);
+    message[3 + length] = (uint8_t)sum;
+    message[4 + length] = (uint8_t)(sum >> 8);
+    line[0] = 0xC0;
+    return 1 + (size_t)wheel_pack(message, 5 + length, line + 1, WHEEL_REPLY).sent;
+}
+
+/* Many bytes: what is refused, by each length that is wrong alone, by port, count and limit; then commands that write each of the
+ * memories and are answered on either port, in one call each way up to their answer. `fits` is a unit that takes a byte. */
+static void many_bytes(struct wheel_unit fits) {
+    struct lengths n = right;
+    n.edac--;
+    lost("many 21", 0, fits, n, WHEEL_BAD_EDAC, fits);
+    n = right, n.bootloader--;
+    lost("many 22", 1, fits, n, WHEEL_BAD_FRAM, fits);
+    n = right, n.fram--;
+    lost("many 22 of user FRAM", 0, fits, n, WHEEL_BAD_FRAM, fits);
+    n = right, n.bootloader_sums--;
+    lost("many 23", 1, fits, n, WHEEL_BAD_SUMS, fits);
+    n = right, n.sums--;
+    lost("many 23 of user FRAM", 0, fits, n, WHEEL_BAD_SUMS, fits);
+    n = right, n.diagnostics--;
+    lost("many 24", 1, fits, n, WHEEL_BAD_DIAGNOSTICS, fits);
+    for (unsigned port = 0; port < 4; port++) {
+        n = right, n.message[port % 2]--;
+        lost("many 25", (uint8_t)(port / 2), fits, n, WHEEL_BAD_BUFFERS, fits);
+        n = right, n.reply[port % 2]--;
+        lost("many 25", (uint8_t)(port / 2), fits, n, WHEEL_BAD_BUFFERS, fits);
+    }
+    struct wheel_unit unit = fits;
+    unit.count0 = 1035;
+    lost("many 26 of port 0", 1, unit, right, WHEEL_BAD_COUNT, unit);
+    unit = fits, unit.count1 = 1035;
+    lost("many 26 of port 1", 0, unit, right, WHEEL_BAD_COUNT, unit);
+    for (unsigned port = 2; port < 256; port++) {
+        lost("many 27", (uint8_t)port, fits, right, WHEEL_BAD_PORT, fits);
+    }
+    for (size_t i = 0; i < NARROW; i++) {
+        unit = fits, unit.limit = (uint16_t)no_limits[i];
+        lost("many 29", 0, unit, right, WHEEL_BAD_LIMIT, unit);
+    }
+
+    static const uint8_t boot[] = {0xFE, 0x00, 0x00, 0x20, 0xC0, 0xDB, 0x12, 0x34};
+    static const uint8_t user[] = {0xFF, 0x00, 0x04, 0x20, 0x56, 0x78};
+    static const uint8_t edac[] = {0x02, 0x05, 0x9A, 0xBC};
+    static const uint8_t range[] = {0x01, 0x00, 0x04, 0x20, 0xFE, 0x01, 0x04, 0x20};
+    static const uint8_t channels[] = {WHEEL_LOST, WHEEL_THROWN_AWAY};
+    static const unsigned ways[2][2] = {{WHEEL_0_ANSWERED_ON_1, WHEEL_0_ANSWERED_ON_0},
+                                        {WHEEL_1_ANSWERED_ON_1, WHEEL_1_ANSWERED_ON_0}};
+    static uint8_t line[16 * WHEEL_REPLY];
+    unsigned acked[2] = {0, 0}, lost_replies = 0, cost = 0;
+    unit = fits, unit.locked = WHEEL_UNLOCKED;
+    for (unsigned turn = 0; turn < 64; turn++) {
+        const unsigned port = turn & 1, poll = turn & 2 ? 0x80 : 0x00;
+        const unsigned address = ways[port][turn >> 2 & 1] + STRAP;
+        size_t length = 0;
+        length += put_command(line + length, address, poll + 0x03, boot, sizeof boot);
+        length += put_command(line + length, address, poll + 0x03, user, sizeof user);
+        length += put_command(line + length, address, poll + 0x0A, edac, sizeof edac);
+        length += put_command(line + length, address, poll + 0x06, range, sizeof range);
+        length += put_command(line + length, address, poll + 0x04, channels, sizeof channels);
+        length += put_command(line + length, address, poll + 0x00, channels, 0);
+        sending[0] = turn & 8 ? (uint8_t)turn : WHEEL_SILENT;
+        sending[1] = turn & 16 ? (uint8_t)turn : WHEEL_SILENT;
+        /* All that is left in each call, or no more than 9 bytes. */
+        for (size_t at = 0; at < length;) {
+            const size_t left = length - at;
+            const size_t some = turn & 32 && left > 9 ? 9 : left;
+            const struct wheel_many many = both_ways("many bytes", (uint8_t)port, unit, line + at, some);
+            unit = many.last.unit;
+            at += (size_t)many.taken;
+            acked[many.last.port] += many.last.answer == WHEEL_ACKED;
+            lost_replies += poll != 0 && many.last.answer == WHEEL_DONE_SILENT;
+            cost += many.last.cost;
+        }
+    }
+    sending[0] = sending[1] = WHEEL_SILENT;
+    same("replies to many bytes on port 0", acked[0] > 20, 1);
+    same("replies to many bytes on port 1", acked[1] > 20, 1);
+    same("replies to many bytes lost", lost_replies > 20, 1);
+    same("the cost of CRC commands among many bytes", cost, 64 * cost_of(1, 510));
+}
+
 int main(void) {
     for (size_t i = 0; i < sizeof lent; i++) {
         ((uint8_t *)&lent)[i] = (uint8_t)(i * 7 + i / 251);
@@ -415,6 +546,8 @@ int main(void) {
     same("place of the cost", offsetof(struct wheel_stepped, cost), 52);
     same("place of the port", offsetof(struct wheel_stepped, port), 49);
     same("place of the number", offsetof(struct wheel_stepped, answer), 48);
+    same("size of what many bytes give back", sizeof(struct wheel_many), 64);
+    same("place of how many were taken", offsetof(struct wheel_many, taken), 56);
 
     handed_back();
 
@@ -548,6 +681,7 @@ int main(void) {
     limits(fresh);
     costs(fits);
     replies(fits);
+    many_bytes(fits);
     lists();
 
     /* Joining: with no bytes on either side a part comes back as it was, with all bits of its fields; and its refusal. */

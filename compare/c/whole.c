@@ -1,7 +1,8 @@
 /* The header's struct with its functions against the plain calls: two units are set up and fed the same seeded bytes, one each
    way, on both ports in turn, with ports that are sending now and then, and after every call record, number, bytes to be sent, their
    port, cost, memories and buffers must be the same. Set-ups are in between, some of them refused, and so are bytes while the length
-   of an FRAM is wrong and bytes on a port that there is not. */
+   of an FRAM is wrong and bytes on a port that there is not. Half of the bytes are given to the struct many in a call, and to the
+   plain call one by one. */
 #include "wheel.h"
 
 #include <stdio.h>
@@ -24,6 +25,7 @@ static struct wheel_stepped plain;
 static uint32_t diagnostics[WHEEL_DIAGNOSTICS];
 static struct wheel_port ports[2];
 static unsigned long calls, came[NUMBERS], replies[2], locked_calls, costly_calls, thrown_calls;
+static unsigned long empty_calls, whole_calls, stopped_calls;
 
 /* No expression asks for two numbers but by `?`: C leaves it to the compiler which of two operands comes first. */
 static uint32_t any(uint32_t below) {
@@ -83,14 +85,38 @@ static void set_up(uint8_t strap, uint64_t limit, uint8_t locked) {
     compare(wheel_begin(&whole, strap, limit, locked));
 }
 
-static void feed(uint8_t port, uint8_t byte) {
+static void step(uint8_t port, uint8_t byte, uint8_t sending0, uint8_t sending1) {
     const size_t boot = whole.bootloader.length, user = whole.user.length;
-    const uint8_t sending0 = any(8) ? 0 : (uint8_t)any(256), sending1 = any(8) ? 0 : (uint8_t)any(256);
     plain = wheel_step(plain.unit, port, byte, sending0, sending1, plains.edac, WHEEL_EDAC, plains.bootloader, boot,
                        plains.bootloader_sums, boot / WHEEL_FRAM_BLOCK, plains.user, user, plains.user_sums,
                        user / WHEEL_FRAM_BLOCK, diagnostics, WHEEL_DIAGNOSTICS, ports[0].message, WHEEL_MESSAGE, ports[0].reply,
                        WHEEL_REPLY, ports[1].message, WHEEL_MESSAGE, ports[1].reply, WHEEL_REPLY);
+}
+
+static uint8_t any_sending(void) { return any(8) ? WHEEL_SILENT : (uint8_t)any(256); }
+
+static void feed(uint8_t port, uint8_t byte) {
+    const uint8_t sending0 = any_sending(), sending1 = any_sending();
+    step(port, byte, sending0, sending1);
     compare(wheel_byte(&whole, port, byte, sending0, sending1));
+}
+
+/* Many bytes in one call, and one by one up to the first number other than WHEEL_TAKEN: how many were taken. With none the record
+   comes back and all else is zeros. */
+static size_t feed_many(uint8_t port, const uint8_t *bytes, size_t length) {
+    const uint8_t sending0 = any_sending(), sending1 = any_sending();
+    size_t due = 0;
+    plain.sent = 0, plain.answer = WHEEL_TAKEN, plain.port = 0, plain.cost = 0;
+    while (due < length && plain.answer == WHEEL_TAKEN) {
+        step(port, bytes[due++], sending0, sending1);
+    }
+    const size_t taken = wheel_bytes(&whole, port, bytes, length, sending0, sending1);
+    same("bytes taken", taken, due);
+    compare(whole.now.answer);
+    empty_calls += length == 0;
+    whole_calls += length > 1 && plain.answer == WHEEL_TAKEN;
+    stopped_calls += taken < length;
+    return taken;
 }
 
 /* An address in or near either FRAM, low byte first. */
@@ -124,13 +150,14 @@ static size_t put_data(unsigned code, uint8_t *data) {
     return length;
 }
 
-/* A message for the units on a port, now and then with a wrong byte in it, or to an address that it does not hear. Now and then a
-   byte of the other port comes in between, or one of a port that there is not. */
-static void send(uint8_t port) {
+static const uint8_t wrongs[] = {0x55, 0xC0, 0xDB};
+
+/* A message for the units on a port as the line carries it, now and then with a wrong byte in it, or to an address that it does not
+   hear: its length. */
+static size_t put_line(uint8_t port, uint8_t *line) {
     static const uint8_t heard[2][2] = {{WHEEL_0_ANSWERED_ON_1, WHEEL_0_ANSWERED_ON_0},
                                         {WHEEL_1_ANSWERED_ON_1, WHEEL_1_ANSWERED_ON_0}};
-    static const uint8_t wrongs[] = {0x55, 0xC0, 0xDB};
-    static uint8_t bytes[WHEEL_MESSAGE], line[WHEEL_REPLY];
+    static uint8_t bytes[WHEEL_MESSAGE];
     const unsigned code = any(13);
     const unsigned by = any(16) ? port : !port, answered = any(2), strap = any(16) ? plain.unit.strap : any(8);
     bytes[0] = (uint8_t)(heard[by][answered] + strap);
@@ -141,12 +168,44 @@ static void send(uint8_t port) {
     bytes[end] = (uint8_t)sum;
     bytes[end + 1] = (uint8_t)(sum >> 8);
     const struct wheel_packed packed = wheel_pack(bytes, end + 2, line, WHEEL_REPLY);
-    const size_t wrong = any(8) ? WHEEL_REPLY : any((uint32_t)packed.sent);
-    for (size_t i = 0; i < packed.sent; i++) {
-        feed(port, i != wrong ? line[i] : wrongs[any(3)]);
+    if (any(8) == 0) {
+        const uint32_t wrong = any((uint32_t)packed.sent);
+        line[wrong] = wrongs[any(3)];
+    }
+    return (size_t)packed.sent;
+}
+
+/* A byte of the other port, or one of a port that there is not. */
+static void between(uint8_t port) {
+    const uint8_t other = any(16) ? !port : (uint8_t)(2 + any(254));
+    feed(other, wrongs[any(3)]);
+}
+
+/* A message byte by byte. Now and then a byte of another port comes in between. */
+static void send(uint8_t port) {
+    static uint8_t line[WHEEL_REPLY];
+    const size_t length = put_line(port, line);
+    for (size_t i = 0; i < length; i++) {
+        feed(port, line[i]);
         if (any(32) == 0) {
-            const uint8_t other = any(16) ? !port : (uint8_t)(2 + any(254));
-            feed(other, wrongs[any(3)]);
+            between(port);
+        }
+    }
+}
+
+/* Some messages, many bytes in a call, from none to all that are left. Now and then a byte of another port comes in between, or the
+   call is for a port that there is not, which loses a byte. */
+static void send_many(uint8_t port) {
+    static uint8_t line[3 * WHEEL_REPLY];
+    size_t length = 0;
+    for (unsigned messages = 1 + any(3); messages > 0; messages--) {
+        length += put_line(port, line + length);
+    }
+    for (size_t i = 0; i < length;) {
+        const size_t slice = any(4) ? any((uint32_t)(length - i) + 1) : length - i;
+        i += feed_many(any(32) ? port : (uint8_t)(2 + any(254)), line + i, slice);
+        if (any(4) == 0) {
+            between(port);
         }
     }
 }
@@ -162,7 +221,11 @@ int main(void) {
             const uint8_t strap = (uint8_t)any(any(8) ? 8 : 256), locked = any(4) ? 0 : (uint8_t)any(256);
             set_up(strap, any(8) ? 260 + any(769) : any(260), locked);
         }
-        send((uint8_t)any(2));
+        if (any(2)) {
+            send((uint8_t)any(2));
+        } else {
+            send_many((uint8_t)any(2));
+        }
     }
     static const unsigned due[] = {0, 1, 2, 3, 4, 5, 6, 8, 9, 10, 20, 22, 27, 29};
     for (size_t i = 0; i < sizeof due / sizeof due[0]; i++) {
@@ -172,7 +235,9 @@ int main(void) {
         }
     }
     printf("the struct and the plain calls agree over %lu calls, %lu of them locked, %lu with a cost, %lu and %lu with a reply on "
-           "port 0 and 1, %lu while a run was thrown away\n",
-           calls, locked_calls, costly_calls, replies[0], replies[1], thrown_calls);
-    return locked_calls < 10 || costly_calls < 10 || replies[0] < 10 || replies[1] < 10 || thrown_calls < 10;
+           "port 0 and 1, %lu while a run was thrown away; with many bytes %lu of none, %lu of several that were all taken, %lu "
+           "that stopped before the last\n",
+           calls, locked_calls, costly_calls, replies[0], replies[1], thrown_calls, empty_calls, whole_calls, stopped_calls);
+    return locked_calls < 10 || costly_calls < 10 || replies[0] < 10 || replies[1] < 10 || thrown_calls < 10 ||
+           empty_calls < 10 || whole_calls < 10 || stopped_calls < 10;
 }

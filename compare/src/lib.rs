@@ -1,19 +1,14 @@
-//! The proved code as Rust calls it, beside plain Rust that was written from the ICD, 01 and 02 alone.
+//! The proved code, by the crate wheel-unit, beside plain Rust that was written from the ICD, 01 and 02 alone.
 
 pub mod differ;
 pub mod plain;
 pub mod proved;
 pub mod record;
 pub mod second;
-pub mod unit;
 pub mod wheel;
 
 /// A stretch of bytes by its sum and its length alone.
-#[derive(Clone, Copy, Debug, PartialEq, Eq)]
-pub struct Part {
-    pub sum: u16,
-    pub len: u32,
-}
+pub use wheel_unit::Part;
 
 /// Numbers that look random and are the same in every run (splitmix64).
 pub struct Seeded(pub u64);

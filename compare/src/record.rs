@@ -1,26 +1,8 @@
 //! What a unit is between two bytes: the record that each call takes and hands back (01, The unit and its neighbours; 02, T-01).
 //! The caller keeps it and may hand in any, so every field is open.
 
-#[derive(Clone, Copy, Debug, PartialEq, Eq)]
-pub enum Mode {
-    Bootloader,
-    Application,
-}
-
-/// Where a receiver stands in the bytes of its port.
-#[derive(Clone, Copy, Debug, PartialEq, Eq, PartialOrd, Ord)]
-pub enum Place {
-    /// No FEND has come yet.
-    Fresh,
-    /// In a run, or at its start.
-    Run,
-    /// In a run, right after a FESC.
-    Escape,
-    /// In a run that has a framing fault.
-    Fault,
-    /// In a run that is thrown away up to its FEND, since a reply left on this port (02, T-01).
-    Thrown,
-}
+/// The mode of a unit, and where a receiver stands in the bytes of its port.
+pub use wheel_unit::{Mode, Place};
 
 pub const PLACES: [Place; 5] = [
     Place::Fresh,

@@ -1,29 +1,11 @@
-//! Any wheel that can be compared: set-up, one byte, packing, joining, and judging and storing a list of files, over what it
-//! is lent.
+//! Any wheel that can be compared: set-up, one byte, many bytes, packing, joining, and judging and storing a list of files, over
+//! what it is lent.
 
 use crate::record::Record;
 use crate::Part;
 
-/// An FRAM, with one kept sum for each block of 256 bytes.
-pub struct Fram<'a> {
-    pub bytes: &'a mut [u8],
-    pub sums: &'a mut [u16],
-}
-
-/// The two buffers of a port: of the message that comes in, and of the reply that leaves.
-pub struct Port<'a> {
-    pub message: &'a mut [u8],
-    pub reply: &'a mut [u8],
-}
-
-/// What a call is lent.
-pub struct Lent<'a> {
-    pub edac: &'a mut [u8],
-    pub bootloader: Fram<'a>,
-    pub user: Fram<'a>,
-    pub diagnostics: &'a mut [u32],
-    pub ports: [Port<'a>; 2],
-}
+/// What a call is lent, with its FRAMs and the buffers of its ports.
+pub use wheel_unit::{Fram, Lent, Port};
 
 /// One byte as the caller tells it (02, T-01): the port on which it came, and for each port whether it is sending now, which it
 /// is by any number but 0.
@@ -45,10 +27,27 @@ pub struct Stepped {
     pub cost: u32,
 }
 
+/// Many bytes of one port, told in one call, and for each port whether it is sending.
+#[derive(Clone, Copy, Debug, PartialEq, Eq)]
+pub struct HeardMany<'a> {
+    pub port: u8,
+    pub bytes: &'a [u8],
+    pub sending: [u8; 2],
+}
+
+/// What they come to: what the last that was taken handed back, and how many were.
+#[derive(Clone, Copy, Debug, PartialEq, Eq)]
+pub struct Many {
+    pub last: Stepped,
+    pub taken: usize,
+}
+
 pub trait Wheel {
     /// Bootloader FRAM is locked where `locked` is any number but 0.
     fn set_up(&self, strap: u8, limit: u64, locked: u8, lent: Lent) -> Stepped;
     fn step(&self, record: Record, heard: Heard, lent: Lent) -> Stepped;
+    /// Bytes up to the first answer other than 0, which is that of the last byte taken.
+    fn steps(&self, record: Record, heard: HeardMany, lent: Lent) -> Many;
     /// The answer and the length of the packed message.
     fn pack(&self, message: &[u8], reply: &mut [u8]) -> (u8, usize);
     /// The joined part, or the number of the refusal.
@@ -83,6 +82,15 @@ macro_rules! wheel_of_module {
                 lent: $crate::wheel::Lent,
             ) -> $crate::wheel::Stepped {
                 $($module)::+::step(record, heard, lent)
+            }
+
+            fn steps(
+                &self,
+                record: $crate::record::Record,
+                heard: $crate::wheel::HeardMany,
+                lent: $crate::wheel::Lent,
+            ) -> $crate::wheel::Many {
+                $($module)::+::steps(record, heard, lent)
             }
 
             fn pack(&self, message: &[u8], reply: &mut [u8]) -> (u8, usize) {

@@ -2,7 +2,7 @@
 
 use compare::differ::{session, sessions, Tally};
 use compare::record::Record;
-use compare::wheel::{Heard, Lent, Second, Stepped, Wheel};
+use compare::wheel::{Heard, HeardMany, Lent, Many, Second, Stepped, Wheel};
 use compare::Part;
 use std::cell::RefCell;
 
@@ -48,7 +48,8 @@ fn every_answer_and_every_command_comes_often() {
         }
     }
     // Every read-only row is written over and beside and shown in every way, every file written, every end of the limits and of
-    // the two FRAMs met, every kind of range of a CRC command, with the highest cost, and all that can befall the two ports.
+    // the two FRAMs met, every kind of range of a CRC command, with the highest cost, all that can befall the two ports, and all that
+    // a call with many bytes can come to.
     let missed = tally.missed();
     assert!(missed.is_empty(), "{missed:#?}\n{tally}");
 }
@@ -63,9 +64,12 @@ fn a_run_that_is_too_short_says_what_it_missed() {
     // come of a message in eight ways by six places at which the port of its reply stands, or by its being the same; 16 addresses
     // heard there and not on the other; in a run that is thrown away four kinds of bytes and three of counts; five lent places,
     // four errors, six counts at their highest, four calls with a short buffer, and six points more. Eight straps, eleven commands
-    // whose reply is lost, four refused straps, nine refused bytes, and two points more.
+    // whose reply is lost, four refused straps, nine refused bytes, and two points more. Of calls with many bytes 20 answers, no
+    // bytes in two ways where one would be refused, one byte lost of several, and eleven points for each port.
     let ports = 2 * (8 * 7 + 2 * 16 + 4 + 3 + 5 + 4 + 6 + 4 + 6) + 8 + 11 + 4 + 9 + 2;
-    let all = 39 * 9 - 2 + 256 + 4 + 5 + 4 * 7 + 3 + 16 + 8 + 3 + 5 + 2 * (51 + 4 + 2) + 6 + ports;
+    let many = 20 + 2 + 1 + 2 * 11;
+    let all =
+        39 * 9 - 2 + 256 + 4 + 5 + 4 * 7 + 3 + 16 + 8 + 3 + 5 + 2 * (51 + 4 + 2) + 6 + ports + many;
     let mut tally = Tally::default();
     assert_eq!(tally.missed().len(), all);
     session(&Second, &Second, 1, &mut tally).unwrap();
@@ -88,6 +92,10 @@ impl Wheel for Noting {
         self.calls.borrow_mut().push((record, heard));
         assert!(self.calls.borrow().len() <= self.halt, "the wheel halts");
         Second.step(record, heard, lent)
+    }
+
+    fn steps(&self, record: Record, heard: HeardMany, lent: Lent) -> Many {
+        Second.steps(record, heard, lent)
     }
 
     fn pack(&self, message: &[u8], reply: &mut [u8]) -> (u8, usize) {

@@ -1,5 +1,8 @@
 //! Joining: the proved code against plain Rust, over short gaps by brute force and over long ones by a matrix of bits.
-use compare::{plain, proved, Part, Seeded};
+use compare::proved::Proved;
+use compare::wheel::Wheel;
+use compare::{plain, Part, Seeded};
+use wheel_unit::crc;
 
 fn part(seeded: &mut Seeded, len: u32) -> Part {
     Part {
@@ -29,7 +32,7 @@ fn short_gaps_by_brute_force() {
         let (a, b) = (part(&mut seeded, first_len), part(&mut seeded, n));
         let sum = plain::carried_one_by_one(a.sum ^ 0xffff, n) ^ b.sum;
         assert_eq!(
-            proved::join(a, b),
+            Proved.join(a, b),
             Ok(Part {
                 sum,
                 len: first_len + n
@@ -55,7 +58,7 @@ fn any_parts() {
         } else {
             refused += 1
         }
-        assert_eq!(proved::join(a, b), due, "{a:?} {b:?}");
+        assert_eq!(Proved.join(a, b), due, "{a:?} {b:?}");
     }
     assert!(
         joined > 1_000 && refused > 1_000,
@@ -96,9 +99,9 @@ fn edges_of_the_lengths() {
                         len: second,
                     },
                 );
-                assert_eq!(proved::join(a, b), plain::join(a, b), "{a:?} {b:?}");
+                assert_eq!(Proved.join(a, b), plain::join(a, b), "{a:?} {b:?}");
                 assert_eq!(
-                    proved::join(a, b).is_err(),
+                    Proved.join(a, b).is_err(),
                     u64::from(first) + u64::from(second) > 0xffff_ffff
                 );
             }
@@ -116,8 +119,8 @@ fn neutral_on_either_side() {
     for _ in 0..10_000 {
         let len = seeded.number() as u32;
         let p = part(&mut seeded, len);
-        assert_eq!(proved::join(neutral, p), Ok(p));
-        assert_eq!(proved::join(p, neutral), Ok(p));
+        assert_eq!(Proved.join(neutral, p), Ok(p));
+        assert_eq!(Proved.join(p, neutral), Ok(p));
     }
 }
 
@@ -126,7 +129,7 @@ fn in_some_order(seeded: &mut Seeded, mut parts: Vec<Part>) -> Part {
     while parts.len() > 1 {
         let at = seeded.number() as usize % (parts.len() - 1);
         let second = parts.remove(at + 1);
-        parts[at] = proved::join(parts[at], second).unwrap();
+        parts[at] = Proved.join(parts[at], second).unwrap();
     }
     parts[0]
 }
@@ -145,7 +148,7 @@ fn any_cut_in_any_order() {
         let parts = cuts
             .windows(2)
             .map(|w| Part {
-                sum: proved::crc(&bytes[w[0]..w[1]]),
+                sum: crc(&bytes[w[0]..w[1]]),
                 len: (w[1] - w[0]) as u32,
             })
             .collect();

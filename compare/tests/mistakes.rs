@@ -67,6 +67,31 @@ fn a_wheel_at_odds_with_itself_is_caught() {
     }
 }
 
+/// Mistakes in calls with many bytes, where single bytes are right.
+const MANY: [&str; 8] = [
+    "Of many bytes the one that stops them is not counted",
+    "Many bytes do not stop at a message for another",
+    "An empty run stops many bytes",
+    "Many bytes forget the FESC at their end",
+    "A refused call takes none of many bytes",
+    "A call with no bytes is refused",
+    "For many bytes no port is sending",
+    "Many bytes all come on port 0",
+];
+
+/// A wheel that has one is caught by its own single bytes.
+#[test]
+fn many_bytes_at_odds_with_single_ones_are_caught() {
+    let all = mistakes::all();
+    for due in MANY {
+        let named = all.iter().find(|(name, _)| *name == due);
+        let (_, wheel) = named.expect("a mistake of this name");
+        let caught = sessions(*wheel, *wheel, 1, BYTES, &mut Tally::default());
+        let what = caught.expect_err(due).what;
+        assert!(what.contains("one by one"), "{due}: {what}");
+    }
+}
+
 #[test]
 fn a_copy_without_a_mistake_agrees() {
     let (name, wheel) = mistakes::all()[0];

@@ -2,7 +2,8 @@
 //! streams of line bytes.
 //! Sessions have the seeds SEED, SEED + 1 and so on, so `differ 1 SEED` with a printed seed has a difference again at once.
 //! A run of 10 megabytes or more also fails where a read-only row, a file, a limit, an edge of the two FRAMs, their lock, a range
-//! of CRC or one of the two ports was not met in every way that there is, or the highest cost of CRC was not reached in each FRAM.
+//! of CRC, one of the two ports or a call with many bytes was not met in every way that there is, or the highest cost of CRC was not
+//! reached in each FRAM. The bytes of calls with many, a quarter as many again, are not among the megabytes.
 
 use compare::differ::{session, Tally};
 use compare::wheel::{Second, Wheel};
@@ -16,7 +17,7 @@ const MEGABYTE: u64 = 1_000_000;
 const LONG: u64 = 10 * MEGABYTE;
 
 fn first() -> (&'static str, &'static dyn Wheel) {
-    ("the proved unit", &compare::unit::Proved)
+    ("the proved unit", &compare::proved::Proved)
 }
 
 /// How many bytes to feed, and the first seed.

@@ -3,8 +3,10 @@
 //! other is Debian's librust-crc-dev, which no test needs. Else the one in plain Rust takes its turn twice.
 
 use compare::wheel::{Fram, Lent, Port};
-use compare::{plain, proved, unit, Seeded};
+use compare::{plain, Seeded};
 use std::{env, hint::black_box, time::Instant};
+use wheel_unit::plain::set_up;
+use wheel_unit::Answer;
 
 const BLOCK: usize = 256;
 
@@ -61,14 +63,14 @@ fn main() {
 fn of_slices(turns: usize) {
     for length in [3, 11, 64, BLOCK, 4_096, 65_536, 262_144] {
         let bytes = Seeded(20).bytes(length);
-        assert_eq!(proved::crc(&bytes), plain::crc(&bytes));
+        assert_eq!(wheel_unit::crc(&bytes), plain::crc(&bytes));
         assert_eq!(other(&bytes), plain::crc(&bytes));
         let times = best(
             turns,
             length,
             &mut [
                 &mut || {
-                    black_box(proved::crc(black_box(&bytes)));
+                    black_box(wheel_unit::crc(black_box(&bytes)));
                 },
                 &mut || {
                     black_box(plain::crc(black_box(&bytes)));
@@ -111,7 +113,7 @@ fn of_blocks(turns: usize) {
                             .each_mut()
                             .map(|(message, reply)| Port { message, reply }),
                     };
-                    assert_eq!(unit::set_up(1, 1_028, 0, lent).answer, 0);
+                    assert_eq!(set_up(1, 1_028, 0, lent).answer, Answer::TAKEN);
                 },
                 &mut || {
                     for (sum, block) in plains.iter_mut().zip(black_box(&fram).chunks(BLOCK)) {

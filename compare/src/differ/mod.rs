@@ -5,7 +5,8 @@
 //! A session is a unit's life from its seed alone: `play` chooses what happens, `commands` and `lines` make the bytes, `ports`
 //! weaves those of the other port in and says which ports are sending, `limits` hands in limits, `frams` locks bootloader FRAM,
 //! `costs` asks for the CRC of ranges of every kind, `lists` asks about lists of files and sends them, `pair` feeds both wheels
-//! and holds them against each other, `tally`, `rows`, `limits`, `frams`, `costs` and `traffic` keep what was reached.
+//! and holds them against each other, `tally`, `rows`, `limits`, `frams`, `costs`, `traffic` and `many` keep what was reached. In the
+//! second part of a session `many` gives a unit many bytes in a call, and each such call is held against single bytes too.
 
 mod commands;
 mod costs;
@@ -13,6 +14,7 @@ mod frams;
 mod limits;
 mod lines;
 mod lists;
+mod many;
 mod pair;
 mod play;
 mod ports;
@@ -44,6 +46,12 @@ pub fn session(
     let mut pair = Pair::new(first, second, seed, &mut seeded, tally);
     let played = play::play(&mut pair, &mut seeded);
     let offset = pair.offset;
+    played.map_err(|what| Difference { seed, offset, what })?;
+    // Many bytes in a call, on a unit of its own, whose FRAMs are small: each call is compared whole, twice.
+    let mut seeded = Seeded(!seed.wrapping_mul(0x2545_F491_4F6C_DD1D));
+    let mut pair = Pair::new(first, second, 0, &mut seeded, tally);
+    let played = many::play(&mut pair, &mut seeded);
+    let offset = offset + pair.offset;
     played.map_err(|what| Difference { seed, offset, what })
 }
 

@@ -4,7 +4,7 @@ use super::ports::Aside;
 use super::tally::Tally;
 use super::traffic::Call;
 use crate::record::{Receiver, Record, REFUSED};
-use crate::wheel::{Fram, Heard, Lent, Port, Stepped, Wheel};
+use crate::wheel::{Fram, Heard, HeardMany, Lent, Many, Port, Stepped, Wheel};
 use crate::{Part, Seeded};
 use std::panic::{catch_unwind, AssertUnwindSafe};
 
@@ -248,6 +248,36 @@ impl<'a> Pair<'a> {
         }
     }
 
+    /// Many bytes on a port in one call to both wheels. What the first makes of them must also be what it makes of them one by one.
+    pub fn many(&mut self, port: usize, bytes: &[u8]) -> Result<Many, String> {
+        let heard = HeardMany {
+            port: self.misnamed.unwrap_or(port as u8),
+            bytes,
+            sending: self.sending,
+        };
+        let (record, lengths) = (self.record, self.lengths);
+        let [left, right] = &mut self.sides;
+        let mut copy = left.clone();
+        let call = || format!("{heard:x?}, {record:?}, {lengths:?}");
+        let made = |wheel: &dyn Wheel, side| {
+            returned(|| wheel.steps(record, heard, lent(side, &lengths)), call)
+        };
+        let (one, two) = (made(self.first, left)?, made(self.second, right)?);
+        agree(one, two, call)?;
+        same_buffers(left, right, true, call)?;
+        let singly = || format!("{}, and one by one", call());
+        let ones = returned(
+            || one_by_one(self.first, record, heard, &mut copy, &lengths),
+            singly,
+        )?;
+        agree(one, ones, singly)?;
+        same_buffers(left, &copy, true, singly)?;
+        self.tally.many.call(&record, heard, &one);
+        self.offset += one.taken as u64;
+        (self.record, self.handed) = (one.last.record, one.last.record);
+        Ok(one)
+    }
+
     pub fn bytes(&mut self, bytes: &[u8]) -> Result<(), String> {
         for &byte in bytes {
             self.byte(byte)?;
@@ -346,6 +376,41 @@ impl<'a> Pair<'a> {
             change(side);
         }
     }
+}
+
+/// Many bytes as single ones: up to the first answer other than 0. With none the record comes back, its lock as it is read.
+fn one_by_one(
+    wheel: &dyn Wheel,
+    record: Record,
+    heard: HeardMany,
+    cells: &mut Buffers,
+    lengths: &Lengths,
+) -> Many {
+    let HeardMany { port, sending, .. } = heard;
+    let locked = u8::from(record.locked != 0);
+    let mut many = Many {
+        last: Stepped {
+            record: Record { locked, ..record },
+            answer: 0,
+            sent: 0,
+            port: 0,
+            cost: 0,
+        },
+        taken: 0,
+    };
+    for &byte in heard.bytes {
+        let heard = Heard {
+            port,
+            byte,
+            sending,
+        };
+        many.last = wheel.step(many.last.record, heard, lent(cells, lengths));
+        many.taken += 1;
+        if many.last.answer != 0 {
+            break;
+        }
+    }
+    many
 }
 
 fn lent<'a>(cells: &'a mut Buffers, lengths: &Lengths) -> Lent<'a> {

@@ -4,7 +4,7 @@
 
 use super::pair::{ChipLengths, Lengths, Pair, BOOTLOADER, LARGEST, USER};
 use super::{commands, costs, frams, limits, lines, lists, ports};
-use crate::record::{Mode, Place, Receiver, PLACES};
+use crate::record::{Mode, Place, Receiver, Record, PLACES};
 use crate::second::read_only::ROWS;
 use crate::{Part, Seeded};
 
@@ -80,7 +80,7 @@ fn turn(pair: &mut Pair, seeded: &mut Seeded) {
 }
 
 /// Any strap and any limit that a unit may have, locked or not.
-fn set_up(pair: &mut Pair, seeded: &mut Seeded) -> Played {
+pub fn set_up(pair: &mut Pair, seeded: &mut Seeded) -> Played {
     let strap = ports::strap(seeded);
     pair.set_up(strap, limits::any(seeded).into(), frams::locked(seeded))?;
     Ok(())
@@ -312,15 +312,26 @@ pub fn any_byte(seeded: &mut Seeded) -> u8 {
 fn wrongly_lent(pair: &mut Pair, seeded: &mut Seeded) -> Played {
     let (lengths, record) = (pair.lengths, pair.record);
     for _ in 0..seeded.pick(&[1, 1, 2, 3]) {
-        match seeded.below(7) {
-            0 | 1 => spoil_record(pair, seeded, &lengths),
-            2 => pair.misnamed = Some(ports::no_port(seeded)),
-            _ => spoil_length(pair, seeded, &lengths),
-        }
+        spoil(pair, seeded, &lengths);
     }
     for _ in 0..1 + seeded.below(3) {
         pair.byte(any_byte(seeded))?;
     }
+    right(pair, lengths, record);
+    Ok(())
+}
+
+/// Makes a call wrong, given the right lengths.
+pub fn spoil(pair: &mut Pair, seeded: &mut Seeded, right: &Lengths) {
+    match seeded.below(7) {
+        0 | 1 => spoil_record(pair, seeded, right),
+        2 => pair.misnamed = Some(ports::no_port(seeded)),
+        _ => spoil_length(pair, seeded, right),
+    }
+}
+
+/// Makes it right again, by the right lengths and the record that there was.
+pub fn right(pair: &mut Pair, lengths: Lengths, record: Record) {
     pair.lengths = lengths;
     pair.misnamed = None;
     pair.record.strap = record.strap;
@@ -332,7 +343,6 @@ fn wrongly_lent(pair: &mut Pair, seeded: &mut Seeded) -> Played {
             receiver.count = record.receivers[port].count;
         }
     }
-    Ok(())
 }
 
 /// Makes the record wrong, given the right lengths.

@@ -114,7 +114,7 @@ fn is_right(record: &Record) -> bool {
 }
 
 /// A run that is short mostly: a command for this port, one for another, or torn or spoiled.
-fn run(seeded: &mut Seeded, record: &Record, port: usize) -> Vec<u8> {
+pub fn run(seeded: &mut Seeded, record: &Record, port: usize) -> Vec<u8> {
     match seeded.below(16) {
         0..=7 => {
             let (code, data) = short_command(seeded, record);
@@ -204,7 +204,7 @@ fn stand(pair: &mut Pair, seeded: &mut Seeded, port: usize) -> Played {
 }
 
 /// The caller hands in another place, and a count that may be one that no unit counts to.
-fn another_place(pair: &mut Pair, seeded: &mut Seeded, port: usize) {
+pub fn another_place(pair: &mut Pair, seeded: &mut Seeded, port: usize) {
     let full = usize::from(pair.record.limit) + 6;
     let now = pair.record.receivers[port].count;
     pair.record.receivers[port] = Receiver {

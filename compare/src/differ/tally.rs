@@ -3,6 +3,7 @@
 use super::costs::Costs;
 use super::frams::Frams;
 use super::limits::Limits;
+use super::many::Manys;
 use super::rows::Rows;
 use super::traffic::Traffic;
 use std::fmt;
@@ -61,6 +62,8 @@ pub struct Tally {
     pub costs: Costs,
     /// What befell the two ports.
     pub ports: Traffic,
+    /// Calls with many bytes, which are not among the bytes and answers above.
+    pub many: Manys,
 }
 
 impl Tally {
@@ -81,6 +84,7 @@ impl Tally {
             self.frams.missed(),
             self.costs.missed(),
             self.ports.missed(),
+            self.many.missed(),
         ]
         .concat()
     }
@@ -102,6 +106,7 @@ impl fmt::Display for Tally {
         writeln!(f, "  {}", self.frams)?;
         writeln!(f, "  {}", self.costs)?;
         writeln!(f, "  {}", self.ports)?;
+        writeln!(f, "  {}", self.many)?;
         write!(f, "  {}", self.rows)
     }
 }

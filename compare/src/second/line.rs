@@ -4,8 +4,8 @@ use crate::record::{Place, Receiver};
 
 pub const FEND: u8 = 0xC0;
 pub const FESC: u8 = 0xDB;
-const TFEND: u8 = 0xDC;
-const TFESC: u8 = 0xDD;
+pub const TFEND: u8 = 0xDC;
+pub const TFESC: u8 = 0xDD;
 
 /// The most bytes of a message on any bus, destination to CRC (ICD 10.2).
 pub const LONGEST: usize = 1_033;
@@ -60,7 +60,7 @@ fn closed(place: Place, count: usize) -> Option<Run> {
 
 /// Only as many bytes as a message may have are stored, however long the buffer is, and the count stops at the next one. A lent
 /// count above that stays as it is (02, T-06).
-fn store(byte: u8, count: usize, longest: usize, message: &mut [u8]) -> usize {
+pub fn store(byte: u8, count: usize, longest: usize, message: &mut [u8]) -> usize {
     if count < longest {
         message[count] = byte;
     }

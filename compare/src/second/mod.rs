@@ -6,7 +6,7 @@
 //! is heard there, `command` carries it out on `edac`, where `read_only` says which bytes stay, and `fram`, and `leaving` packs
 //! the reply by `line` into the buffer of the port that it leaves on, if it does. `counts` counts what befell each port. `list`
 //! judges and stores the files of WRITE FILE, for the command and for anyone who asks without a unit. `limit` says how long a
-//! message may be, and `lock` shows whether bootloader FRAM can be written.
+//! message may be, and `lock` shows whether bootloader FRAM can be written. `many` takes many bytes in one call, run by run.
 
 mod closing;
 mod command;
@@ -19,6 +19,7 @@ mod limit;
 mod line;
 mod list;
 mod lock;
+mod many;
 mod ports;
 pub mod read_only;
 mod refusals;
@@ -27,6 +28,7 @@ use crate::record::{Mode, Record, FRESH, REFUSED};
 use crate::wheel::{Heard, Lent, Stepped};
 pub use crc::{join, sum};
 pub use list::{judge_list, store_list};
+pub use many::steps;
 
 /// 01, The unit and its neighbours: computes all sums, shows the lock and changes nothing else.
 pub fn set_up(strap: u8, limit: u64, locked: u8, lent: Lent) -> Stepped {

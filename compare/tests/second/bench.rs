@@ -1,10 +1,10 @@
 //! A unit on a bench: everything that it is lent, and messages to and from it in the tests' own coding.
 
 use compare::plain;
+use compare::proved::Proved;
 pub use compare::record::PLACES;
 use compare::record::{Mode, Place, Receiver, Record, REFUSED};
-use compare::unit::Proved;
-use compare::wheel::{Fram, Heard, Lent, Port, Second, Stepped, Wheel};
+use compare::wheel::{Fram, Heard, HeardMany, Lent, Many, Port, Second, Stepped, Wheel};
 
 pub const FEND: u8 = 0xC0;
 
@@ -294,6 +294,19 @@ impl Bench {
         assert_eq!(stepped.sent > 0, matches!(stepped.answer, 1 | 3));
         assert!(stepped.sent > 0 && stepped.port <= 1 || stepped.port == 0);
         stepped
+    }
+
+    /// Many bytes on any port in one call.
+    pub fn many_on(&mut self, port: u8, bytes: &[u8]) -> Many {
+        let (wheel, record, sending) = (self.program.wheel(), self.record, self.sending);
+        let heard = HeardMany {
+            port,
+            bytes,
+            sending,
+        };
+        let many = wheel.steps(record, heard, self.lent());
+        self.record = many.last.record;
+        many
     }
 
     /// The answer to a byte and the length of what is sent.
