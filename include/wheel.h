@@ -278,7 +278,7 @@ struct wheel {
 };
 
 /* The four functions over it are C that the caller compiles: tested, and not proved. They lend what the struct has to
- * wheel_set_up, wheel_step and wheel_steps and keep what comes back.
+ * wheel_set_up and wheel_steps and keep what comes back.
  *
  * Sets the unit up, as wheel_set_up does: answers WHEEL_TAKEN, or why not. Before that every byte is WHEEL_BAD_FRAM. */
 static inline uint8_t wheel_begin(struct wheel *wheel, uint8_t strap, uint64_t limit, uint8_t locked) {
@@ -288,17 +288,6 @@ static inline uint8_t wheel_begin(struct wheel *wheel, uint8_t strap, uint64_t l
                               wheel->user.length / WHEEL_FRAM_BLOCK, wheel->diagnostics, WHEEL_DIAGNOSTICS,
                               wheel->ports[0].message, WHEEL_MESSAGE, wheel->ports[0].reply, WHEEL_REPLY,
                               wheel->ports[1].message, WHEEL_MESSAGE, wheel->ports[1].reply, WHEEL_REPLY);
-    return wheel->now.answer;
-}
-
-/* One byte that came in on a port, as wheel_step takes it, with whether each port is sending: answers its number. */
-static inline uint8_t wheel_byte(struct wheel *wheel, uint8_t port, uint8_t byte, uint8_t sending0, uint8_t sending1) {
-    wheel->now = wheel_step(wheel->now.unit, port, byte, sending0, sending1, wheel->edac, WHEEL_EDAC, wheel->bootloader.bytes,
-                            wheel->bootloader.length, wheel->bootloader.sums, wheel->bootloader.length / WHEEL_FRAM_BLOCK,
-                            wheel->user.bytes, wheel->user.length, wheel->user.sums, wheel->user.length / WHEEL_FRAM_BLOCK,
-                            wheel->diagnostics, WHEEL_DIAGNOSTICS, wheel->ports[0].message, WHEEL_MESSAGE,
-                            wheel->ports[0].reply, WHEEL_REPLY, wheel->ports[1].message, WHEEL_MESSAGE,
-                            wheel->ports[1].reply, WHEEL_REPLY);
     return wheel->now.answer;
 }
 
@@ -314,6 +303,13 @@ static inline size_t wheel_bytes(struct wheel *wheel, uint8_t port, const uint8_
                     WHEEL_REPLY, wheel->ports[1].message, WHEEL_MESSAGE, wheel->ports[1].reply, WHEEL_REPLY);
     wheel->now = many.last;
     return (size_t)many.taken;
+}
+
+/* One byte that came in on a port, as wheel_step takes it, with whether each port is sending: answers its number. It is a call
+ * of many with one byte, which is the same thing: so a board has one way into the unit. */
+static inline uint8_t wheel_byte(struct wheel *wheel, uint8_t port, uint8_t byte, uint8_t sending0, uint8_t sending1) {
+    (void)wheel_bytes(wheel, port, &byte, 1, sending0, sending1);
+    return wheel->now.answer;
 }
 
 /* What the last call gives to be sent: where it stands, in `port` on which port, and in `length` how many bytes, 0 for
