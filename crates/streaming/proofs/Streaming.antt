@@ -46,37 +46,24 @@ behind-none rest = let e : 0 + rest .taken ≡ rest .taken = omega arith in ap (
 
 -- ---- lengths and ports
 
+-- the lengths of what is lent, with other lengths of the message buffers
+abbrev lengthsWith : World → ℕ → ℕ → Lengths
+lengthsWith w message0 message1 = record {
+  edac = length (w .edac);
+  bootloader = length (w .frams .bootloader .fram);
+  «bootloader_sums» = length (w .frams .bootloader .sums);
+  fram = length (w .frams .user .fram);
+  sums = length (w .frams .user .sums);
+  diagnostics = length (w .diagnostics);
+  message0 = message0;
+  reply0 = length (w .buffers .replies .at0);
+  message1 = message1;
+  reply1 = length (w .buffers .replies .at1);
+}
+
 lengths-stay : (side : Side) (w : World) (message : List ℕ) → length message ≡ length (messageOf side w) → lengthsOf (withMessage side w message) ≡ lengthsOf w
-lengths-stay Zero w message same = ap (λ (n : ℕ). lengths-with n (length (w .buffers .messages .at1))) same
-  where
-    lengths-with : ℕ → ℕ → Lengths
-    lengths-with a b = record {
-      edac = length (w .edac);
-      bootloader = length (w .frams .bootloader .fram);
-      «bootloader_sums» = length (w .frams .bootloader .sums);
-      fram = length (w .frams .user .fram);
-      sums = length (w .frams .user .sums);
-      diagnostics = length (w .diagnostics);
-      message0 = a;
-      reply0 = length (w .buffers .replies .at0);
-      message1 = b;
-      reply1 = length (w .buffers .replies .at1);
-    }
-lengths-stay One w message same = ap (λ (n : ℕ). lengths-with (length (w .buffers .messages .at0)) n) same
-  where
-    lengths-with : ℕ → ℕ → Lengths
-    lengths-with a b = record {
-      edac = length (w .edac);
-      bootloader = length (w .frams .bootloader .fram);
-      «bootloader_sums» = length (w .frams .bootloader .sums);
-      fram = length (w .frams .user .fram);
-      sums = length (w .frams .user .sums);
-      diagnostics = length (w .diagnostics);
-      message0 = a;
-      reply0 = length (w .buffers .replies .at0);
-      message1 = b;
-      reply1 = length (w .buffers .replies .at1);
-    }
+lengths-stay Zero w message same = ap (λ (n : ℕ). lengthsWith w n (length (w .buffers .messages .at1))) same
+lengths-stay One w message same = ap (λ (n : ℕ). lengthsWith w (length (w .buffers .messages .at0)) n) same
 
 -- a unit that serves goes on serving, with another port whose count is not refused and a message buffer of the same length
 still-serves : (u : Unit) (number : ℕ) (w : World) (side : Side) (port : Port) (message : List ℕ) → stepFit u number (lengthsOf w) ≡ Fits → countOf port ≤ largestCount
