@@ -182,7 +182,7 @@ struct wheel_joined {
  * not. Writes the sum of each block of both FRAMs and the low byte of the diagnostic WHEEL_FRAM_STATUS, and hands back a
  * record in bootloader mode with both receivers fresh and WHEEL_TAKEN. Nothing else that is lent changes. Or WHEEL_BAD_STRAP
  * to WHEEL_BAD_BUFFERS or WHEEL_BAD_LIMIT, lowest number first: then nothing at all changes, and the record has strap 8 and
- * else zeros, so that every later call with it is refused. */
+ * else zeros, so that every later byte with it is refused. */
 struct wheel_stepped wheel_set_up(uint8_t strap, uint64_t limit, uint8_t locked, const uint8_t *edac, size_t edac_len,
                                   const uint8_t *bootloader, size_t bootloader_len, uint16_t *bootloader_sums,
                                   size_t bootloader_sums_len, const uint8_t *fram, size_t fram_len, uint16_t *sums,
