@@ -1,4 +1,4 @@
-/* The command unit's C face. C99 or later, or C++. Firmware takes `struct wheel`, at the end, with its three short functions,
+/* The command unit's C face. C99 or later, or C++. Firmware takes `struct wheel`, at the end, with its four short functions,
  * which rest on the calls before it.
  *
  * Every function of the archive is proved for all arguments that this header allows: it returns, and touches no memory but
@@ -149,7 +149,8 @@ struct wheel_stepped {
     uint32_t cost;  /* of a CRC command that is done, its reply sent or not: 1 to WHEEL_COST_MOST; of all else 0 */
 };
 
-/* What many bytes a call give back: what the last of them that was taken gave back, and how many were taken. */
+/* What many bytes a call give back: what the last of them that was taken gave back, and how many were taken. Of no bytes it is
+ * the record as it is read, and else zeros. */
 struct wheel_many {
     struct wheel_stepped last;
     uint64_t taken;
@@ -181,7 +182,7 @@ struct wheel_joined {
  * not. Writes the sum of each block of both FRAMs and the low byte of the diagnostic WHEEL_FRAM_STATUS, and hands back a
  * record in bootloader mode with both receivers fresh and WHEEL_TAKEN. Nothing else that is lent changes. Or WHEEL_BAD_STRAP
  * to WHEEL_BAD_BUFFERS or WHEEL_BAD_LIMIT, lowest number first: then nothing at all changes, and the record has strap 8 and
- * else zeros, so that every later call with it is refused. */
+ * else zeros, so that every later byte with it is refused. */
 struct wheel_stepped wheel_set_up(uint8_t strap, uint64_t limit, uint8_t locked, const uint8_t *edac, size_t edac_len,
                                   const uint8_t *bootloader, size_t bootloader_len, uint16_t *bootloader_sums,
                                   size_t bootloader_sums_len, const uint8_t *fram, size_t fram_len, uint16_t *sums,
@@ -209,10 +210,11 @@ struct wheel_stepped wheel_step(struct wheel_unit unit, uint8_t port, uint8_t by
                                 uint8_t *message1, size_t message1_len, uint8_t *reply1, size_t reply1_len);
 
 /* Many bytes that came in on a port, in one call: just what the same bytes come to by wheel_step one by one, with the record
- * and all that is lent handed on, up to the first answer other than WHEEL_TAKEN. `taken` counts the byte of that answer too:
- * the rest is for the next call, once its reply is on its way. Where every answer is WHEEL_TAKEN, all are taken. A call that
- * is refused takes one byte, and loses it. With no bytes nothing changes, and the answer is WHEEL_TAKEN. The bytes must lie
- * in nothing that is written. An ordinary byte costs a small part of what a call for it alone does (docs/MEASURED.md). */
+ * and all that is lent handed on and the same ports sending, up to the first answer other than WHEEL_TAKEN. `taken` counts the
+ * byte of that answer too: the rest is for the next call, once a reply is on its way. Where every answer is WHEEL_TAKEN, all
+ * are taken. A call that is refused takes one byte, and loses it. One with no bytes is never refused, whatever else it is
+ * given: nothing changes, and the answer is WHEEL_TAKEN. The bytes must lie in nothing that is written. An ordinary byte costs
+ * a small part of what a call for it alone does (docs/MEASURED.md). */
 struct wheel_many wheel_steps(struct wheel_unit unit, uint8_t port, const uint8_t *bytes, size_t bytes_len, uint8_t sending0,
                               uint8_t sending1, uint8_t *edac, size_t edac_len, uint8_t *bootloader, size_t bootloader_len,
                               uint16_t *bootloader_sums, size_t bootloader_sums_len, uint8_t *fram, size_t fram_len,
