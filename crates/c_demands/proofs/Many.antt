@@ -24,8 +24,8 @@ use Rattle.face.specs.declared.WheelUnit.{WheelUnit}
 use Rattle.face.specs.declared.WheelStepped.{WheelStepped}
 use Rattle.face.specs.Records.{sendingIn, unitIn, unitOut, steppedOut, ReturnedMany, returnedMany, returnedManyBy}
 use Rattle.face.proofs.Settled.{a-record-comes-back}
-use Rattle.c_demands.specs.FromC.{FromC}
-use Rattle.c_demands.specs.Many.{ManyFromC, StepsMany, oneOf, onesOf, InARow, bytesOf, AllTaken, nothingYet, lastBack, lastLeft, OneByOne}
+use Rattle.c_demands.specs.FromC.{FromC, Follow, OnOneEdac}
+use Rattle.c_demands.specs.Many.{ManyFromC, StepsMany, oneOf, onesOf, InARow, AllLike, bytesOf, AllTaken, nothingYet, lastBack, lastLeft, OneByOne, steppings}
 
 -- ---- a byte that is only taken
 
@@ -129,6 +129,12 @@ module _ (m : ManyFromC) where
   each-a-call (byte ∷ bytes) v w =
       let c = oneOf v m byte w in (refl, refl, either-way (InARow (c .back .unit) (c .left)) (eqb (c .back .answer) 0) _ _ (λ _. each-a-call bytes (c .back .unit) (c .left)) (λ _. tt))
 
+  -- on its port, with the same ports sending
+  each-like-it : (bytes : List ℕ) (v : WheelUnit) (w : World) → AllLike m (onesOf v m bytes w)
+  each-like-it [] v w = tt
+  each-like-it (byte ∷ bytes) v w =
+      let c = oneOf v m byte w in (refl, refl, refl, either-way (AllLike m) (eqb (c .back .answer) 0) _ _ (λ _. each-like-it bytes (c .back .unit) (c .left)) (λ _. tt))
+
   -- and all answer 0, but for the last
   all-but-the-last : (bytes : List ℕ) (v : WheelUnit) (w : World) → AllTaken (onesOf v m bytes w)
   all-but-the-last [] v w = tt
@@ -142,7 +148,7 @@ module _ (m : ManyFromC) where
       before-more c none (d ∷ calls) rest = (none, rest)
 
 -- What a call of `wheel_steps` takes, gives back and leaves is what calls of `wheel_step` with its bytes one by one do, each with the record and all that
--- is lent as the one before left them, up to the first answer other than 0: so all that is proved of such calls is proved of it.
+-- is lent as the one before left them, up to the first answer other than 0.
 pub many-bytes-from-C-are-bytes-one-by-one : (u : WheelUnit) (m : ManyFromC) → StepsMany u m → OneByOne u m (onesOf u m (m .bytes) (m .lent))
 many-bytes-from-C-are-bytes-one-by-one u m is =
     let comes = one-by-one m (m .bytes) u (m .lent) in
@@ -150,6 +156,7 @@ many-bytes-from-C-are-bytes-one-by-one u m is =
     let many = comes .many ∙ sym taken in
     record {
       in-a-row = each-a-call m (m .bytes) u (m .lent);
+      all-like-it = each-like-it m (m .bytes) u (m .lent);
       how-many = many;
       their-bytes = comes .their ∙ ap (λ (n : ℕ). take n (m .bytes)) many;
       taken-but-for-the-last = all-but-the-last m (m .bytes) u (m .lent);
@@ -166,3 +173,12 @@ one-byte-in-a-call-of-many u m byte alone is =
     let c = oneOf u m byte (m .lent) in
     let calls = ap (λ (l : List ℕ). onesOf u m l (m .lent)) alone ∙ either-way (λ (l : List FromC). c ∷ l ≡ c ∷ []) (eqb (c .back .answer) 0) [] [] (λ _. refl) (λ _. refl) in
     (ones .back ∙ ap (lastBack (nothingYet u)) calls, ones .left ∙ ap (lastLeft (m .lent)) calls, sym (ones .how-many) ∙ ap length calls)
+
+-- So what is proved of calls that follow one another (demand 3, T-07), and of calls on one EDAC memory (T-02, T-11), is proved of it.
+pub calls-in-a-row-follow : (calls : List FromC) (u : WheelUnit) (w : World) → InARow u w calls → Follow u (w .frams) calls
+calls-in-a-row-follow [] u w row = tt
+calls-in-a-row-follow (c ∷ calls) u w row = (ap (λ (x : World). x .frams) (row .0), row .1, calls-in-a-row-follow calls (c .back .unit) (c .left) (row .2))
+
+pub calls-in-a-row-are-on-one-EDAC : (calls : List FromC) (u : WheelUnit) (w : World) → InARow u w calls → OnOneEdac (w .edac) (steppings u calls)
+calls-in-a-row-are-on-one-EDAC [] u w row = tt
+calls-in-a-row-are-on-one-EDAC (c ∷ calls) u w row = (ap (λ (x : World). x .edac) (row .0), row .1, calls-in-a-row-are-on-one-EDAC calls (c .back .unit) (c .left) (row .2))

@@ -12,7 +12,7 @@ use Rattle.face.specs.declared.WheelUnit.{WheelUnit}
 use Rattle.face.specs.declared.WheelStepped.{WheelStepped}
 use Rattle.face.specs.declared.WheelMany.{WheelMany}
 use Rattle.face.specs.Records.{sendingIn, unitIn, unitOut, returnedBy, returnedMany, returnedManyBy}
-use Rattle.c_demands.specs.FromC.{FromC, Steps}
+use Rattle.c_demands.specs.FromC.{FromC, Steps, AnyFromC, stepping}
 
 -- A call of `wheel_steps`, apart from its record: the port, the bytes, whether each port was sending, what was lent, what came back, and what was lent as
 -- the call left it.
@@ -46,6 +46,11 @@ abbrev pub InARow : WheelUnit → World → List FromC → Type 0
 InARow u w [] = Prim.Unit {0}
 InARow u w (c ∷ calls) = (c .lent ≡ w) × Steps u c × InARow (c .back .unit) (c .left) calls
 
+-- Each is on the port of a call of `wheel_steps`, with the same ports sending.
+abbrev pub AllLike : ManyFromC → List FromC → Type 0
+AllLike m [] = Prim.Unit {0}
+AllLike m (c ∷ calls) = (c .port ≡ m .port) × (c .sending0 ≡ m .sending0) × (c .sending1 ≡ m .sending1) × AllLike m calls
+
 -- Their bytes.
 abbrev pub bytesOf : List FromC → List ℕ
 bytesOf [] = []
@@ -72,9 +77,15 @@ lastLeft before (c ∷ calls) = lastLeft (c .left) calls
 -- What a call of `wheel_steps` is, by some calls of `wheel_step`.
 pub record OneByOne (u : WheelUnit) (m : ManyFromC) (calls : List FromC) : Type 0 where
   pub in-a-row : InARow u (m .lent) calls
+  pub all-like-it : AllLike m calls
   pub how-many : length calls ≡ m .back .taken
   pub their-bytes : bytesOf calls ≡ take (m .back .taken) (m .bytes)
   pub taken-but-for-the-last : AllTaken calls
   pub up-to-an-answer : m .back .last .answer ≡ 0 → m .back .taken ≡ length (m .bytes)
   pub back : m .back .last ≡ lastBack (nothingYet u) calls
   pub left : m .left ≡ lastLeft (m .lent) calls
+
+-- Such calls as those that T-02 and T-11 speak of, each with its record.
+abbrev pub steppings : WheelUnit → List FromC → List AnyFromC
+steppings u [] = []
+steppings u (c ∷ calls) = stepping u c ∷ steppings (c .back .unit) calls
