@@ -3,8 +3,8 @@
    dearest message known of that command, on port 0 with its reply on port 1, where it throws a run away, `once ask 8` and `once
    write 8`, the list of that message judged and stored; `once user FIRST LAST COST` and `once boot FIRST LAST COST`, the FEND after
    a CRC command over those bytes of user or bootloader FRAM, each of 262,144, counted from its first, which costs that, by the same
-   ports; and LENGTH calls: `once step LENGTH`, of ordinary bytes in a run. It fails where an answer or a cost is not the one that is
-   due. */
+   ports; and LENGTH calls: `once step LENGTH`, of ordinary bytes in a run. Bytes are handed over one by one, by wheel_step; with -DMANY
+   all in one call, by wheel_steps. It fails where an answer or a cost is not the one that is due. */
 #include "wheel.h"
 
 #include <stdio.h>
@@ -13,8 +13,22 @@
 
 enum { STRAP = 1 };
 
-/* A byte on port 0, while neither port is sending. */
-static unsigned fed(struct wheel *wheel, uint8_t byte) { return wheel_byte(wheel, 0, byte, WHEEL_SILENT, WHEEL_SILENT); }
+/* Bytes on port 0, while neither port is sending: the answer to the last, or to the first that is not just taken. */
+static unsigned fed(struct wheel *wheel, const uint8_t *bytes, size_t length) {
+#ifdef MANY
+    return wheel_bytes(wheel, 0, bytes, length, WHEEL_SILENT, WHEEL_SILENT) == length ? wheel->now.answer : WHEEL_BAD_BUFFERS;
+#else
+    for (size_t i = 0; i < length && (i == 0 || wheel->now.answer == WHEEL_TAKEN); i++) {
+        wheel->now = wheel_step(wheel->now.unit, 0, bytes[i], WHEEL_SILENT, WHEEL_SILENT, wheel->edac, WHEEL_EDAC,
+                                wheel->bootloader.bytes, wheel->bootloader.length, wheel->bootloader.sums,
+                                wheel->bootloader.length / WHEEL_FRAM_BLOCK, wheel->user.bytes, wheel->user.length,
+                                wheel->user.sums, wheel->user.length / WHEEL_FRAM_BLOCK, wheel->diagnostics, WHEEL_DIAGNOSTICS,
+                                wheel->ports[0].message, WHEEL_MESSAGE, wheel->ports[0].reply, WHEEL_REPLY,
+                                wheel->ports[1].message, WHEEL_MESSAGE, wheel->ports[1].reply, WHEEL_REPLY);
+    }
+    return wheel->now.answer;
+#endif
+}
 
 /* The data of a command that costs much: its length. */
 static size_t dear(unsigned long code, uint8_t *data) {
@@ -125,17 +139,14 @@ int main(int count, char **words) {
             wheel.now.unit.count0 = end + 2;
             /* A run is open on the port of the reply, and is thrown away. */
             wheel.now.unit.count1 = 1;
-            return fed(&wheel, 0xC0) != WHEEL_ACKED || wheel.now.port != 1 || (range && wheel.now.cost != strtoul(words[4], NULL, 10));
+            bytes[0] = 0xC0;
+            return fed(&wheel, bytes, 1) != WHEEL_ACKED || wheel.now.port != 1 || (range && wheel.now.cost != strtoul(words[4], NULL, 10));
         }
         if (strcmp(words[1], "step") != 0) {
             return 1;
         }
-        for (unsigned long i = 0; i < number; i++) {
-            if (fed(&wheel, 0x41) != WHEEL_TAKEN) {
-                return 1;
-            }
-        }
-        return wheel.now.unit.count0 != number;
+        memset(bytes, 0x41, number);
+        return fed(&wheel, bytes, number) != WHEEL_TAKEN || wheel.now.unit.count0 != number;
     } else {
         return 1;
     }
