@@ -13,6 +13,11 @@
 
 enum { STRAP = 1 };
 
+/* What data and memory are full of: FESC, which is packed as two bytes and is the dearest to pack. */
+#ifndef FILL
+#define FILL 0xDB
+#endif
+
 /* Bytes on port 0, while neither port is sending: the answer to the last, or to the first that is not just taken. */
 static unsigned fed(struct wheel *wheel, const uint8_t *bytes, size_t length) {
 #ifdef MANY
@@ -34,7 +39,7 @@ static unsigned fed(struct wheel *wheel, const uint8_t *bytes, size_t length) {
 static size_t dear(unsigned long code, uint8_t *data) {
     static const uint8_t second[8] = {0x01, 0x00, 0x04, 0x20, 0xFE, 0xFF, 0x07, 0x20};
     size_t length = 0;
-    memset(data, 0xC0, 1028);
+    memset(data, FILL, 1028);
     if (code == 0x03 || code == 0x06) { /* POKE over five blocks; CRC from the second byte to the last but one */
         memcpy(data, second, sizeof second);
         return code == 0x03 ? 1028 : 8;
@@ -118,13 +123,13 @@ int main(int count, char **words) {
         if (range || strcmp(words[1], "last") == 0) {
             uint8_t *message = wheel.ports[0].message;
             const size_t end = 3 + dear(number, message + 3);
-            if (range) { /* with as many bytes 0xC0 in the reply as the range allows: each is packed as two */
+            if (range) { /* with as many of these bytes in the reply as the range allows */
                 const unsigned long first = words[1][0] == 'u' ? WHEEL_USER_FRAM_FIRST : WHEEL_BOOTLOADER_FRAM_FIRST;
                 place(message + 3, first, words[2]);
                 place(message + 7, first, words[3]);
-                message[1] = 0xC0;
-                memset(user_sums, 0xC0, sizeof user_sums);
-                memset(bootloader_sums, 0xC0, sizeof bootloader_sums);
+                message[1] = FILL;
+                memset(user_sums, FILL, sizeof user_sums);
+                memset(bootloader_sums, FILL, sizeof bootloader_sums);
                 wheel.bootloader.length = WHEEL_FRAM_MOST;
                 wheel.now.unit.bootloader_len = WHEEL_FRAM_MOST;
             }
@@ -132,7 +137,7 @@ int main(int count, char **words) {
             message[2] = (uint8_t)(0x80 + number);
             message[end + 1] = (uint8_t)(crc(message, end) >> 8);
             message[end] = (uint8_t)crc(message, end);
-            memset(edac, 0xC0, WHEEL_EDAC);
+            memset(edac, FILL, WHEEL_EDAC);
             wheel.user.length = WHEEL_FRAM_MOST;
             wheel.now.unit.fram_len = WHEEL_FRAM_MOST;
             wheel.now.unit.mode = WHEEL_APPLICATION;
