@@ -228,13 +228,13 @@ static const struct command commands[] = {
 static const struct command dear_crc = {"CRC of all but the first and last of 262,144 bytes, cost 1,532", 0x06, 8, AT + 1, AT + 262142, RUNS, WHEEL_ACKED};
 static const struct command writes = {"WRITE FILE of 202 times the dearest file and 3 times file 0", 0x08, 1028, 0, 0, RUNS, WHEEL_ACKED};
 
-/* Which file is the dearest to write, by one address and FESC. */
+/* Which file is the dearest to write, by one address, with FEND and with FESC. */
 static void find_file(void) {
     uint32_t most = 0;
     uint8_t which = 0;
-    for (unsigned each = 1; each < 256; each++) {
-        file = (uint8_t)each;
-        const uint32_t taken = closed_at(&writes, 0xDB, WHEEL_0_ANSWERED_ON_1, 0, WHEEL_FRAM_LEAST, byte).instructions;
+    for (unsigned each = 2; each < 512; each++) {
+        file = (uint8_t)(each / 2);
+        const uint32_t taken = closed_at(&writes, each % 2 ? 0xDB : 0xC0, WHEEL_0_ANSWERED_ON_1, 0, WHEEL_FRAM_LEAST, byte).instructions;
         which = taken > most ? file : which;
         most = taken > most ? taken : most;
     }

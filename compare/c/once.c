@@ -3,8 +3,8 @@
    dearest message known of that command, on port 0 with its reply on port 1, where it throws a run away, `once ask 8` and `once
    write 8`, the list of that message judged and stored; `once user FIRST LAST COST` and `once boot FIRST LAST COST`, the FEND after
    a CRC command over those bytes of user or bootloader FRAM, each of 262,144, counted from its first, which costs that, by the same
-   ports; and LENGTH calls: `once step LENGTH`, of ordinary bytes in a run. It fails where an answer or a cost is not the one that is
-   due. */
+   ports; and LENGTH calls: `once step LENGTH`, of ordinary bytes in a run. Bytes are handed over one by one, by wheel_step; with -DMANY
+   all in one call, by wheel_steps. It fails where an answer or a cost is not the one that is due. */
 #include "wheel.h"
 
 #include <stdio.h>
@@ -13,14 +13,33 @@
 
 enum { STRAP = 1 };
 
-/* A byte on port 0, while neither port is sending. */
-static unsigned fed(struct wheel *wheel, uint8_t byte) { return wheel_byte(wheel, 0, byte, WHEEL_SILENT, WHEEL_SILENT); }
+/* What data and memory are full of: FESC, which is packed as two bytes and is the dearest to pack. */
+#ifndef FILL
+#define FILL 0xDB
+#endif
+
+/* Bytes on port 0, while neither port is sending: the answer to the last, or to the first that is not just taken. */
+static unsigned fed(struct wheel *wheel, const uint8_t *bytes, size_t length) {
+#ifdef MANY
+    return wheel_bytes(wheel, 0, bytes, length, WHEEL_SILENT, WHEEL_SILENT) == length ? wheel->now.answer : WHEEL_BAD_BUFFERS;
+#else
+    for (size_t i = 0; i < length && (i == 0 || wheel->now.answer == WHEEL_TAKEN); i++) {
+        wheel->now = wheel_step(wheel->now.unit, 0, bytes[i], WHEEL_SILENT, WHEEL_SILENT, wheel->edac, WHEEL_EDAC,
+                                wheel->bootloader.bytes, wheel->bootloader.length, wheel->bootloader.sums,
+                                wheel->bootloader.length / WHEEL_FRAM_BLOCK, wheel->user.bytes, wheel->user.length,
+                                wheel->user.sums, wheel->user.length / WHEEL_FRAM_BLOCK, wheel->diagnostics, WHEEL_DIAGNOSTICS,
+                                wheel->ports[0].message, WHEEL_MESSAGE, wheel->ports[0].reply, WHEEL_REPLY,
+                                wheel->ports[1].message, WHEEL_MESSAGE, wheel->ports[1].reply, WHEEL_REPLY);
+    }
+    return wheel->now.answer;
+#endif
+}
 
 /* The data of a command that costs much: its length. */
 static size_t dear(unsigned long code, uint8_t *data) {
     static const uint8_t second[8] = {0x01, 0x00, 0x04, 0x20, 0xFE, 0xFF, 0x07, 0x20};
     size_t length = 0;
-    memset(data, 0xC0, 1028);
+    memset(data, FILL, 1028);
     if (code == 0x03 || code == 0x06) { /* POKE over five blocks; CRC from the second byte to the last but one */
         memcpy(data, second, sizeof second);
         return code == 0x03 ? 1028 : 8;
@@ -104,13 +123,13 @@ int main(int count, char **words) {
         if (range || strcmp(words[1], "last") == 0) {
             uint8_t *message = wheel.ports[0].message;
             const size_t end = 3 + dear(number, message + 3);
-            if (range) { /* with as many bytes 0xC0 in the reply as the range allows: each is packed as two */
+            if (range) { /* with as many of these bytes in the reply as the range allows */
                 const unsigned long first = words[1][0] == 'u' ? WHEEL_USER_FRAM_FIRST : WHEEL_BOOTLOADER_FRAM_FIRST;
                 place(message + 3, first, words[2]);
                 place(message + 7, first, words[3]);
-                message[1] = 0xC0;
-                memset(user_sums, 0xC0, sizeof user_sums);
-                memset(bootloader_sums, 0xC0, sizeof bootloader_sums);
+                message[1] = FILL;
+                memset(user_sums, FILL, sizeof user_sums);
+                memset(bootloader_sums, FILL, sizeof bootloader_sums);
                 wheel.bootloader.length = WHEEL_FRAM_MOST;
                 wheel.now.unit.bootloader_len = WHEEL_FRAM_MOST;
             }
@@ -118,24 +137,21 @@ int main(int count, char **words) {
             message[2] = (uint8_t)(0x80 + number);
             message[end + 1] = (uint8_t)(crc(message, end) >> 8);
             message[end] = (uint8_t)crc(message, end);
-            memset(edac, 0xC0, WHEEL_EDAC);
+            memset(edac, FILL, WHEEL_EDAC);
             wheel.user.length = WHEEL_FRAM_MOST;
             wheel.now.unit.fram_len = WHEEL_FRAM_MOST;
             wheel.now.unit.mode = WHEEL_APPLICATION;
             wheel.now.unit.count0 = end + 2;
             /* A run is open on the port of the reply, and is thrown away. */
             wheel.now.unit.count1 = 1;
-            return fed(&wheel, 0xC0) != WHEEL_ACKED || wheel.now.port != 1 || (range && wheel.now.cost != strtoul(words[4], NULL, 10));
+            bytes[0] = 0xC0;
+            return fed(&wheel, bytes, 1) != WHEEL_ACKED || wheel.now.port != 1 || (range && wheel.now.cost != strtoul(words[4], NULL, 10));
         }
         if (strcmp(words[1], "step") != 0) {
             return 1;
         }
-        for (unsigned long i = 0; i < number; i++) {
-            if (fed(&wheel, 0x41) != WHEEL_TAKEN) {
-                return 1;
-            }
-        }
-        return wheel.now.unit.count0 != number;
+        memset(bytes, 0x41, number);
+        return fed(&wheel, bytes, number) != WHEEL_TAKEN || wheel.now.unit.count0 != number;
     } else {
         return 1;
     }

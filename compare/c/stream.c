@@ -1,5 +1,6 @@
 /* A wheel in C over the archive, for measuring: feeds standard input to port 0 of a unit with strap 1 and 65,536 bytes of each FRAM
-   and writes the replies, on whichever port they leave. No port is ever said to be sending. */
+   and writes the replies, on whichever port they leave. No port is ever said to be sending. A byte is a call of wheel_byte; with -DMANY
+   the bytes up to an answer are one of wheel_bytes. */
 #include "wheel.h"
 
 #include <stdio.h>
@@ -15,8 +16,12 @@ int main(void) {
         return 1;
     }
     for (size_t n; (n = fread(read, 1, sizeof read, stdin)) > 0;) {
-        for (size_t i = 0; i < n; i++) {
-            wheel_byte(&wheel, 0, read[i], WHEEL_SILENT, WHEEL_SILENT);
+        for (size_t i = 0; i < n;) {
+#ifdef MANY
+            i += wheel_bytes(&wheel, 0, read + i, n - i, WHEEL_SILENT, WHEEL_SILENT);
+#else
+            wheel_byte(&wheel, 0, read[i++], WHEEL_SILENT, WHEEL_SILENT);
+#endif
             uint8_t port;
             size_t length;
             const uint8_t *reply = wheel_reply(&wheel, &port, &length);

@@ -10,7 +10,7 @@
 
    How the two share the processor: a call can be broken into by any interrupt, since no interrupt touches what is lent to it. So
    the control loop is on time whatever the unit does. It might as well be called by `main` between two calls; then it is late by
-   one call at most, of which the dearest that is known takes some 55,000 instructions (docs/MEASURED.md): 2.2 ms at 25 MHz and less
+   one call at most, of which the dearest that is known takes some 44,000 instructions (docs/MEASURED.md): 1.8 ms at 25 MHz and less
    than 1 ms at 64 MHz, at one a cycle. Meanwhile a line of 460,800 baud brings 46 bytes in each millisecond, which the ring keeps;
    and `serve` gives a port no byte behind one that has an answer, so that no two dear ones follow one another there.
 
