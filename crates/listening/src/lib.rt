@@ -51,7 +51,7 @@ fn is_closing(port: Port, byte: u8) -> bool
     false
 }
 
-// The first bytes of a run that stand for themselves. Most bytes are such, and a loop that knows it costs half as much for each.
+// The first bytes of a run that stand for themselves. Most bytes are such, and a loop of their own asks less of each.
 fn plain(largest: u16, count: usize, bytes: &[u8], message: &mut [u8]) -> Stretch
     ensures { λ r. ⌜ (r .taken ≤ length (now (bytes .entry)))
         × (listenOf largest (Hearing (record { place = Run; count = count })) (now (bytes .entry)) (now (message .entry))

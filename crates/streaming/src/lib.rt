@@ -122,7 +122,7 @@ pub fn steps(
         message1: message1.len(),
         reply1: reply1.len(),
     };
-    // Judged here too, and not by the step alone: what has passed once is known to pass there, and costs nothing again.
+    // Judged here too, and not by the step alone, so that the compiler can tell there what has passed already.
     let fit = step_fit(unit, port, lengths);
     match fit {
         Fit::Unfit(answer) => refused(unit, answer, bytes.len()),
