@@ -1,10 +1,10 @@
 -- Many bytes in one call of `wheel_steps` are the same bytes by calls of `wheel_step`, one by one. Assumes nothing.
-use mathlib.Core.Path.{_≡_, refl, sym, ap, ap₂, _∙_, subst}
+use mathlib.Core.Path.{_≡_, refl, sym, ap, _∙_}
 use mathlib.Core.Bool.{Bool, true, false, cond, false≢true}
 use mathlib.Core.List.{List, [], _∷_}
-use Prim.Native.Nat.{ℕ, suc, _+_, _≤_}
+use Prim.Native.Nat.{ℕ, suc}
 use native.Mathlib.Omega.{arith}
-use borrow.Author.Tests.{eq-eqb, eqb-true, eqb-false}
+use borrow.Author.Tests.{eq-eqb, eqb-true}
 use lib.Dec.{eqb}
 use lib.ListN.{length, take}
 use Rattle.carrying.proofs.Room.{either-way}
@@ -22,7 +22,7 @@ use Rattle.demands.proofs.DemandOne.{what-every-answer-leaves}
 use Rattle.demands.proofs.Costing.{what-every-answer-costs}
 use Rattle.face.specs.declared.WheelUnit.{WheelUnit}
 use Rattle.face.specs.declared.WheelStepped.{WheelStepped}
-use Rattle.face.specs.Records.{sendingIn, unitIn, unitOut, steppedOut, ReturnedMany, returnedMany, returnedManyBy}
+use Rattle.face.specs.Records.{sendingIn, unitIn, unitOut, steppedOut, ReturnedMany}
 use Rattle.face.proofs.Settled.{a-record-comes-back}
 use Rattle.c_demands.specs.FromC.{FromC, Follow, OnOneEdac}
 use Rattle.c_demands.specs.Many.{ManyFromC, StepsMany, oneOf, onesOf, InARow, AllLike, bytesOf, AllTaken, nothingYet, lastBack, lastLeft, OneByOne, steppings}

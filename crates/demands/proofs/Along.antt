@@ -6,14 +6,11 @@ use mathlib.Core.List.{List, [], _∷_, _++_}
 use Prim.Native.Nat.{ℕ, _+_, _≤_, _<_}
 use native.Mathlib.Omega.{arith}
 use borrow.Author.Tests.{le-leb, eq-eqb, ne-eqb, eqb-true, eqb-false}
-use lib.Dec.{eqb}
 use lib.ListN.{length, replicate}
-use Rattle.line.specs.Framing.{fend}
 use Rattle.line.specs.declared.receiver.Receiver.{Receiver}
 use Rattle.line.specs.declared.receiver.Heard.{Heard}
 use Rattle.line.specs.declared.receiver.Heard.the-variants as heard
 use Rattle.line.specs.Receiver.{receiveOf, feedOf}
-use Rattle.line.proofs.Bounds.{the-count-never-passes-a-bound-above-the-largest, the-buffer-keeps-its-length}
 use Rattle.carrying.specs.Ending.{isLimit}
 use Rattle.carrying.proofs.Room.{either-way}
 use Rattle.carrying.proofs.Limits.{within-both-ends}
@@ -35,12 +32,12 @@ use Rattle.judging.specs.declared.fitting.Fit.the-variants.{Fits, Unfit}
 use Rattle.judging.specs.Fitting.{framAsSetUp, framsAsSetUp, recordFit, largestCount, lengthsFit, stepFit}
 use Rattle.judging.specs.Judging.{largestMessage, verdictOf, withPorts, receivedOf, amongBoth, unless, judgeOf}
 use Rattle.judging.proofs.Serving.{a-served-record-is-sound}
-use Rattle.commanding.specs.World.{World, messageOf, lengthsOf, Outcome, withMessages, withMessage}
+use Rattle.commanding.specs.World.{World, messageOf, lengthsOf, Outcome, withMessage}
 use Rattle.unit.specs.Steps.{servedOf, stepOf}
 use Rattle.demands.specs.Locking.{locks}
 use Rattle.demands.specs.Leaving.{heardPorts, heardMessages, hasReply, portsAfter, Leaves}
 use Rattle.demands.specs.Calls.{Call, lentTo, callOn, isOn, answering, fedOf, reachedBy, bytesOn, SendsNothingOn, NoReplyOn, delivering, lentLengths, Suits, AllSuit, Serves, comesTo}
-use Rattle.unit.proofs.Heard.{heardOn, unitHeard, worldHeard, served-so}
+use Rattle.unit.proofs.Heard.{heardOn, served-so}
 use Rattle.demands.proofs.DemandOne.{heard-of-one, what-every-answer-leaves}
 
 -- ---- a unit that goes on

@@ -1,12 +1,12 @@
 -- The cases of a call, once for all demands: what holds of each of them holds of every call. Assumes nothing.
 use mathlib.Core.Path.{_≡_, refl, subst}
-use mathlib.Core.Bool.{Bool, false, _&&_, _||_}
+use mathlib.Core.Bool.{Bool, false, _&&_}
 use mathlib.Core.Logic.{inl, inr}
 use mathlib.Core.List.{List}
 use Prim.Native.Nat.{ℕ, _+_, _-_, _≤_, _<_}
 use native.Mathlib.Omega.{arith}
 use borrow.Author.Tests.{ltb-false}
-use lib.Dec.{eqb, leb, ltb}
+use lib.Dec.{ltb}
 use lib.ListN.{length, drop, getD}
 use Rattle.line.specs.declared.receiver.Heard.{Heard}
 use Rattle.line.specs.declared.receiver.Heard.the-variants as heard
@@ -15,29 +15,27 @@ use Rattle.ports.specs.declared.Side.{Side}
 use Rattle.ports.specs.declared.Sending.{Sending}
 use Rattle.ports.specs.declared.Answered.{Answered}
 use Rattle.ports.specs.declared.Answered.the-variants.{On, Nowhere}
-use Rattle.ports.specs.declared.Side.the-variants.{Zero, One}
-use Rattle.ports.specs.Sides.{sideOf, Both, ofSide, put}
-use Rattle.ports.specs.Ports.{answeredOn, portOf, withPort, countOf, AfterByte, hearOf, firstCount, isSending}
+use Rattle.ports.specs.Sides.{sideOf, ofSide}
+use Rattle.ports.specs.Ports.{answeredOn, firstCount, isSending}
 use Rattle.ports.proofs.Sides.{put-there}
 use Rattle.judging.proofs.Numbers.{of-any-length}
 use Rattle.memory.specs.Bytes.{stretch}
-use Rattle.memory.specs.Counts.{channels, countedUp}
-use Rattle.memory.specs.Edac.{edacSize}
+use Rattle.memory.specs.Counts.{countedUp}
 use Rattle.carrying.specs.Ending.{isLimit}
 use Rattle.carrying.proofs.Room.{either-way, part}
 use Rattle.answer.specs.declared.Answer.{Answer}
-use Rattle.answer.specs.declared.Answer.the-variants.{Taken, Framing, Runt, Oversize, BadCrc, Elsewhere, BadStrap, BadEdac, BadFram, BadSums, BadDiagnostics, BadBuffers, BadCount, BadPort, BadLimit}
+use Rattle.answer.specs.declared.Answer.the-variants.{Taken, Framing, Runt, Oversize, BadCrc, Elsewhere, BadLimit}
 use Rattle.answer.specs.Answers.{numberOf, sentOf}
 use Rattle.judging.specs.declared.Unit.{Unit}
 use Rattle.judging.specs.declared.Lengths.{Lengths}
 use Rattle.judging.specs.declared.Verdict.{Verdict}
 use Rattle.judging.specs.declared.fitting.Fit.{Fit}
 use Rattle.judging.specs.declared.fitting.Fit.the-variants.{Fits, Unfit}
-use Rattle.judging.specs.Fitting.{lastStrap, framFits, sumsFit, framsAsSetUp, tooShort, limitFit, recordFit, largestCount, lengthsFit, setUpFit, stepFit}
-use Rattle.judging.specs.Judging.{largestMessage, soundOf, commandOn, runOf, verdictOf, withPorts, receivedOf, amongBoth, unless, judgeOf}
+use Rattle.judging.specs.Fitting.{framFits, limitFit, setUpFit, stepFit}
+use Rattle.judging.specs.Judging.{largestMessage, soundOf, commandOn, runOf, verdictOf, receivedOf, amongBoth, unless, judgeOf}
 use Rattle.command.specs.Command.{isLocking}
 use Rattle.replying.specs.Replies.{codeOf}
-use Rattle.commanding.specs.World.{World, messageOf, lengthsOf, Outcome, outcome, withMessages, withMessage, withDiagnostics}
+use Rattle.commanding.specs.World.{World, messageOf, lengthsOf, Outcome, outcome, withMessages, withDiagnostics}
 use Rattle.commanding.specs.Commanded.{orderedOf, commandedOf}
 use Rattle.unit.specs.Steps.{servedOf, stepOf}
 use Rattle.unit.proofs.Heard.{heardOn, unitHeard, worldHeard}

@@ -1,7 +1,7 @@
 -- Demand 2: a message that is packed and sent to the unit on a port is judged and carried out as 01 says, whatever comes in on the other port, and what
 -- the unit packs is received back. Assumes nothing.
 use mathlib.Core.Path.{_≡_, refl, sym, ap, ap₂, _∙_, subst}
-use mathlib.Core.Bool.{Bool, true, false, cond, false≢true}
+use mathlib.Core.Bool.{Bool, true, false, cond}
 use mathlib.Core.List.{List, [], _∷_, _++_, append-assoc}
 use Prim.Native.Nat.{ℕ, suc, _+_, _-_, _*_, _/_, _%_, _^_, _≤_, _<_, min}
 use native.Mathlib.Omega.{arith}
@@ -52,7 +52,7 @@ use Rattle.judging.proofs.Ways.{an-oversize}
 use Rattle.judging.proofs.Serving.{a-served-step-fits, a-served-record-is-sound}
 use Rattle.replying.specs.Replies.{codeOf, polls, replyControl, sealed, replyMessage}
 use Rattle.replying.specs.Ports.{silentOf}
-use Rattle.commanding.specs.World.{World, messageOf, replyOf, lengthsOf, Outcome, outcome, withMessage, heldOf}
+use Rattle.commanding.specs.World.{World, messageOf, replyOf, lengthsOf, Outcome, withMessage, heldOf}
 use Rattle.commanding.specs.Commanded.{answered, orderedOf, commandedOf}
 use Rattle.unit.specs.Steps.{servedOf, stepOf}
 use Rattle.demands.specs.Calls.{Call, lentTo, callOn, isOn, Fed, answering, fedOf, reachedBy, bytesOn, SendsNothingOn, NoReplyOn, openedOn, delivering, Suits, AllSuit, Serves, Idle, comesTo, answeredBy, addressedOf, answerMessage, Bytes}

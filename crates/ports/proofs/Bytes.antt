@@ -8,7 +8,7 @@ use lib.Dec.{eqb}
 use lib.ListN.{length}
 use Rattle.line.specs.Framing.{fend}
 use Rattle.line.specs.declared.receiver.Heard.the-variants as heard
-use Rattle.line.specs.Receiver.{opened, receiveOf}
+use Rattle.line.specs.Receiver.{opened}
 use Rattle.line.proofs.Bounds.{the-count-never-passes-a-bound-above-the-largest, the-buffer-keeps-its-length}
 use Rattle.ports.specs.declared.Port.{Port}
 use Rattle.ports.specs.declared.Port.the-variants.{Hearing, Throwing}

@@ -1,6 +1,6 @@
 -- Bytes that are only heard, and the one after them: what they come to one by one. Assumes nothing.
 use mathlib.Core.Path.{_≡_, refl, sym, ap, ap₂, _∙_, subst}
-use mathlib.Core.Bool.{Bool, true, false, cond, not}
+use mathlib.Core.Bool.{Bool, true, false, cond}
 use mathlib.Core.List.{List, [], _∷_}
 use Prim.Native.Nat.{ℕ, suc, _+_, _≤_, _<_}
 use native.Mathlib.Omega.{arith}
@@ -13,8 +13,8 @@ use Rattle.ports.specs.declared.Side.the-variants.{Zero, One}
 use Rattle.ports.specs.declared.Port.{Port}
 use Rattle.ports.specs.declared.Ports.{Ports}
 use Rattle.ports.specs.declared.Sending.{Sending}
-use Rattle.ports.specs.Sides.{sideOf, Both, ofSide, put}
-use Rattle.ports.specs.Ports.{portOf, withPort, countOf, AfterByte, closesSome}
+use Rattle.ports.specs.Sides.{sideOf, Both, put}
+use Rattle.ports.specs.Ports.{portOf, withPort, countOf, AfterByte}
 use Rattle.ports.proofs.Sides.{put-there, put-back, put-over, port-put, port-put-back, port-put-over}
 use Rattle.ports.proofs.Bytes.{heard-low, heard-long}
 use Rattle.listening.specs.declared.Listened.{Listened}

@@ -1,6 +1,6 @@
 -- A call that is not refused, by what was heard: what it comes to, and where its answer is 0. Assumes nothing.
 use mathlib.Core.Path.{_≡_, refl, sym, ap, _∙_}
-use mathlib.Core.Bool.{Bool, true, false, false≢true}
+use mathlib.Core.Bool.{true, false, false≢true}
 use mathlib.Core.List.{List}
 use Prim.Native.Nat.{ℕ, _≤_}
 use native.Mathlib.Omega.{arith}
@@ -19,7 +19,6 @@ use Rattle.ports.specs.Ports.{answeredOn, portOf, withPort, AfterByte, hearOf, 
 use Rattle.ports.proofs.Sides.{put-there}
 use Rattle.carrying.specs.Ending.{Ending, done, refused, unfitted, endedOf}
 use Rattle.carrying.proofs.Room.{either-way}
-use Rattle.answer.specs.declared.Answer.{Answer}
 use Rattle.answer.specs.declared.Answer.the-variants.{Taken}
 use Rattle.answer.specs.Answers.{numberOf}
 use Rattle.judging.specs.declared.Unit.{Unit}
