@@ -1,4 +1,6 @@
 // 01's table of answers: what a call on a unit answers, the number of each answer, and how many bytes it sends.
+#![tactic(auto)]
+
 ghost use Rattle.std.specs.Prelude.{◌≡◌};
 ghost use Rattle.answer.specs.Answers.{number_of, sent_of};
 

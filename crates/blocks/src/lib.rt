@@ -1,4 +1,6 @@
 // FRAM with one kept sum for each block of 256 bytes: bootloader FRAM and user FRAM are each one.
+#![tactic(auto)]
+
 pub mod cost;
 mod gap;
 

@@ -1,5 +1,6 @@
 // The C face, as `include/wheel.h` declares it: each function passes on to a room below and adds nothing. A name is the
 // whole program's, as in C, so each begins with `wheel_`.
+#![tactic(auto)]
 
 ghost use Rattle.std.specs.Prelude.{◌≡◌};
 ghost use Rattle.crc.specs.Sum.{sum_from, sum_of};

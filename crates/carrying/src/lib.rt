@@ -1,4 +1,6 @@
 // What the rooms of the commands share: how much data a message may have, the two modes, and what a command comes to.
+#![tactic(auto)]
+
 ghost use Rattle.std.specs.Prelude.{◌≡◌};
 ghost use Rattle.carrying.specs.Ending.{is_limit};
 

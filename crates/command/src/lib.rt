@@ -1,5 +1,7 @@
 // The command that a code names, carried out. The commands that need no memory stand here, one module for each; those on FRAM,
 // on files and on ranges of EDAC memory have rooms of their own.
+#![tactic(auto)]
+
 pub mod cost;
 pub mod diagnostic;
 pub mod init;

@@ -1,4 +1,6 @@
 // A command carried out and answered: what stands between a verdict and an outcome.
+#![tactic(auto)]
+
 ghost use Rattle.std.specs.Prelude.{◌≡◌, true, List, ℕ, ◌≤◌, length};
 ghost use Rattle.line.specs.Packing.{shortest_message, message_size, reply_size};
 ghost use Rattle.memory.specs.Counts.{channels};

@@ -13,7 +13,7 @@ use lib.ListN.{length, length-append}
 use Rattle.crc.specs.declared.Part.{Part}
 use Rattle.crc.specs.declared.Joined.{Joined}
 use Rattle.crc.specs.declared.Joined.TheVariants.{Whole, TooLong}
-use Rattle.crc.specs.Sum.{start, sum_from, sum_of, carried}
+use Rattle.crc.specs.Sum.{start, byte_step, sum_from, sum_of, carried}
 use Rattle.crc.specs.Joining.{part_of, neutral, joined_of, join_all, longest_part, joining_of, with_part, too_long, join_of, join_parts, Order, only, both, parts_of, joined_in, joining_in, all_bytes, power_of, product}
 use Rattle.crc.proofs.Xor.{xor_assoc, xor_twice}
 use Rattle.crc.proofs.Halving.{product_carries}
@@ -51,7 +51,7 @@ neutral_on_the_right a = ap₂ part (xor_twice a.sum start) (add-zero a.len)
 pub sum_from_append : (sum : ℕ) (xs ys : List ℕ) → sum_from sum (xs ++ ys) ≡ sum_from (sum_from sum xs) ys
 unfolding sum_from
 sum_from_append sum [] ys = refl
-sum_from_append sum (x ∷ xs) ys = sum_from_append _ xs ys
+sum_from_append sum (x ∷ xs) ys = sum_from_append (byte_step sum x) xs ys
 
 pub joined_parts_are_the_part_of_both : (xs ys : List ℕ) → joined_of (part_of xs) (part_of ys) ≡ part_of (xs ++ ys)
 unfolding joined_of part sum_of

@@ -1,6 +1,8 @@
 // The CRC of the Nanosatellite Protocol (ICD 10.8) and the joining of sums (01, "The message"). There are three ways to sum:
 // what is shorter than a chunk by the table (`by_table`); whole chunks by folding, and the sixteen bytes that it leaves by
 // shifts (`few`); what is left behind whole chunks by the table again (`by_chunks`).
+#![tactic(auto)]
+
 mod table;
 
 ghost use Rattle.std.specs.Prelude.{◌≡◌, ◌≤◌, length};

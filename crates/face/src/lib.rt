@@ -1,4 +1,6 @@
 // C's records, and what the rooms below answer as C has it: the C face without the calls on a unit, and its records and numbers.
+#![tactic(auto)]
+
 pub mod converting;
 
 ghost use Rattle.std.specs.Prelude.{◌≡◌};

@@ -1,4 +1,6 @@
 // The unit, lent its memory.
+#![tactic(auto)]
+
 use answer::{number_of, sent_of};
 use line::receiver::Receiver;
 use ports::{Port, Ports, Sending, Side};

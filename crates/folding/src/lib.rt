@@ -2,6 +2,8 @@
 // Squared again and again (with no mixed terms, since 1 + 1 is 0), that says the same of x^8, of x^16 and of x^32 in the
 // place of x. So a word of 8, 16 or 32 bits may be left out of a list, if it is put on the words 16 - 12, 16 - 5 and 16
 // places after it. That the sum stays the same is proved in crc (`sixteen_bytes_stand_for_all`).
+#![tactic(auto)]
+
 ghost use Rattle.std.specs.Prelude.{◌≡◌, ◌++◌, ◌+◌, ◌%◌, ◌≤◌, ◌<◌, length, take, drop};
 ghost use Rattle.folding.specs.Folding.{words_of, word_at, halves_of, folded, low_bytes, reduced};
 

@@ -1,5 +1,7 @@
 // One byte heard and judged: refused, taken, a run dropped, or a command to carry out. Of all that a unit is lent this room sees the
 // lengths, and the message buffers alone.
+#![tactic(auto)]
+
 pub mod fitting;
 
 ghost use Rattle.std.specs.Prelude.{◌≡◌, ◌≤◌, length};

@@ -1,4 +1,6 @@
 // Bytes that come in on a port, as many in one go as close no run that is to be judged.
+#![tactic(auto)]
+
 ghost use Rattle.std.specs.Prelude.{◌≡◌, ◌&&◌, not, ◌≤◌, eqb, length, drop};
 ghost use Rattle.line.specs.Framing.{fend, fesc};
 ghost use Rattle.ports.specs.declared.Port.TheVariants.{Hearing};

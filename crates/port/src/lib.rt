@@ -1,6 +1,8 @@
 // A program's way to the outside: port 0 on standard input and output, and the output of port 1 on a file, if there is one. The bytes
 // flow in and out by way of one buffer. What was read stands in its first half, what waits to be written in its second, for one port at
 // a time, so that replies are written in the order in which they left.
+#![tactic(auto)]
+
 ghost use Rattle.std.specs.Prelude.{◌<◌};
 
 use libc::{STDIN_FILENO, STDOUT_FILENO};

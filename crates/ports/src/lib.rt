@@ -1,4 +1,6 @@
 // The two ports of a unit: which addresses each hears, its receiver, and what becomes of it when a reply leaves on it.
+#![tactic(auto)]
+
 ghost use Rattle.std.specs.Prelude.{◌≡◌, take};
 ghost use Rattle.ports.specs.Sides.{side_of, both, of_side};
 ghost use Rattle.ports.specs.Ports.{count_of, hearing_of, hear_of, hearing_on, hear_on_of, is_open, port_of, with_port, is_sending, by_address, answered_on, first_count, thrown_count, lost_count, settlement, settle_of};

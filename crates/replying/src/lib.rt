@@ -1,4 +1,6 @@
 // What is said to a command: the reply's message, made and packed, or nothing.
+#![tactic(auto)]
+
 ghost use Rattle.std.specs.Prelude.{◌≡◌, ℕ, ◌-◌, ◌≤◌, length, get_or};
 ghost use Rattle.line.specs.Packing.{shortest_message, message_size, reply_size, packed_of};
 ghost use Rattle.carrying.specs.declared.Ended.TheVariants as came;

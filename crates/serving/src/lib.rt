@@ -1,4 +1,6 @@
 // A unit with fresh memory, fed to the end of the input.
+#![tactic(auto)]
+
 ghost use Rattle.std.specs.Prelude.{◌≤◌};
 
 use feeding::{begun, feed};

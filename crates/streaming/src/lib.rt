@@ -1,5 +1,7 @@
 // Many bytes a call. Bytes that close no run that is to be judged are heard in one go; the one that ends them is a step of the unit,
 // whose answer is never 0, so that there is just one.
+#![tactic(auto)]
+
 ghost use Rattle.std.specs.Prelude.{◌≡◌, ◌≤◌};
 ghost use Rattle.blocks.specs.Fram.{kept};
 ghost use Rattle.ports.specs.Sides.{both};

@@ -1,4 +1,6 @@
 // The unit: a record by value, set-up, and one byte in and one answer out.
+#![tactic(auto)]
+
 ghost use Rattle.std.specs.Prelude.{◌≡◌};
 ghost use Rattle.blocks.specs.Fram.{kept};
 ghost use Rattle.ports.specs.Ports.{both_fresh};

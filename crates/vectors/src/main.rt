@@ -1,5 +1,7 @@
 // Sums of outside vectors, and of long inputs against a sum worked out bit by bit. Each line of the output names a vector
 // and gives what came, what should come, and whether they agree.
+#![tactic(auto)]
+
 use crc::{Joined, Part};
 
 // One bit of the fragment of ICD 10.8, as it stands there.

@@ -3,6 +3,8 @@
 // input ends it says on standard error how often each answer came, by its number, which diagnostics moved, whether bootloader FRAM is
 // locked, the largest cost of a CRC command, how many replies and bytes were written on port 0, and how many replies
 // left on port 1.
+#![tactic(auto)]
+
 ghost use Rattle.std.specs.Prelude.{◌≤◌};
 
 use answer::number_of;

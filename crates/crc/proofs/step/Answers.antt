@@ -1,0 +1,10 @@
+-- `crc::step` meets its contract: the low byte's entry of the table, and the high byte moved down. Assumes nothing.
+use borrow.Author.Rules.{rules}
+use lib.Bits.{bit_xor}
+use Rattle.crc.specs.Sum.{byte_step}
+use Rattle.crc.proofs.ByteSteps.{by_the_table}
+use Rattle.crc.proofs.step.Goals as goal
+
+pub returns : goal.returns
+unfolding byte_step
+returns c = by_the_table _ (bit_xor c.args.sum c.args.byte) c.requires

@@ -1,0 +1,14 @@
+-- `folding::fold` meets its contract. The invariant: what is left of the fold, at the words from i on, gives the whole. Assumes nothing.
+use mathlib.Core.Path.{◌≡◌, refl, ◌∙◌}
+use Prim.Native.Nat.{◌≤◌, ◌-◌}
+use native.Mathlib.Omega.{arith}
+use lib.ListN.{drop}
+use Rattle.folding.specs.Folding.{folded}
+use Rattle.folding.proofs.Turns.{fold_turn, fold_end}
+use Rattle.folding.proofs.fold.Given as goal
+
+abbrev pub invariant-loop-i : goal.invariant-loop-i
+invariant-loop-i l = (l.i ≤ 16) × (folded (16 - l.i) (drop l.i l.words) ≡ folded 16 l.initial.words)
+
+abbrev pub decreases-loop-i : goal.decreases-loop-i
+decreases-loop-i l = 16 - l.i
