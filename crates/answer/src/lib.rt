@@ -5,7 +5,7 @@ ghost use Rattle.std.specs.Prelude.{◌≡◌};
 ghost use Rattle.answer.specs.Answers.{number_of, sent_of};
 
 // What a call answers. A reply that is sent has so many bytes, the written first part of a reply buffer.
-#[derive(Drop)]
+#[derive(Clone, Copy)]
 pub enum Answer {
     // A byte taken, or an empty run closed.
     Taken,

@@ -18,7 +18,7 @@ pub const BLOCK_SIZE: usize = 256;
 const LAST_PLACE: usize = 255;
 
 // Where a range lies in the fitted memory, if all of it does.
-#[derive(Drop)]
+#[derive(Clone, Copy)]
 pub enum Found {
     At(usize),
     Outside,

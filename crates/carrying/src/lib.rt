@@ -20,14 +20,14 @@ pub fn is_limit(limit: usize) -> bool
 }
 
 // The unit's two modes.
-#[derive(Drop)]
+#[derive(Clone, Copy)]
 pub enum Mode {
     Bootloader,
     Application,
 }
 
 // What a command comes to: done, with so many bytes of reply's data; refused; or an access to memory not fitted.
-#[derive(Drop)]
+#[derive(Clone, Copy)]
 pub enum Ended {
     Done(usize),
     Refused,
@@ -35,7 +35,7 @@ pub enum Ended {
 }
 
 // What a command comes to, with the mode afterwards, and whether bootloader FRAM is locked.
-#[derive(Drop)]
+#[derive(Clone, Copy)]
 pub struct Carried {
     pub ended: Ended,
     pub mode: Mode,

@@ -18,7 +18,7 @@ use ports::{Fate, Side};
 use replying::{CODES, CONTROL, CRC_SIZE, HEAD};
 
 // An answer with the unit afterwards; what a command cost, as a count; and the port on which a reply leaves, port 0 where none does.
-#[derive(Drop)]
+#[derive(Clone, Copy)]
 pub struct Stepped {
     pub unit: Unit,
     pub answer: Answer,

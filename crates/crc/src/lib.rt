@@ -136,14 +136,14 @@ pub fn sum(bytes: &[u8]) -> u16
 }
 
 // A stretch of bytes by its sum and its length alone.
-#[derive(Drop)]
+#[derive(Clone, Copy)]
 pub struct Part {
     pub sum: u16,
     pub len: u32,
 }
 
 // What joining answers: the two parts as one, or that no part is so long.
-#[derive(Drop)]
+#[derive(Clone, Copy)]
 pub enum Joined {
     Whole(Part),
     TooLong,

@@ -16,7 +16,7 @@ use line::packing::Packed;
 
 // A part as C holds it.
 #[repr(C)]
-#[derive(Drop)]
+#[derive(Clone, Copy)]
 pub struct WheelPart {
     pub sum: u16,
     pub len: u32,
@@ -24,7 +24,7 @@ pub struct WheelPart {
 
 // 01's number of joining, and the part, which is all zeros where there is none.
 #[repr(C)]
-#[derive(Drop)]
+#[derive(Clone, Copy)]
 pub struct WheelJoined {
     pub answer: u8,
     pub part: WheelPart,
@@ -32,7 +32,7 @@ pub struct WheelJoined {
 
 // A unit's record as C holds it: mode, places and lock by their numbers. The narrow fields come last, so that there is no gap between two.
 #[repr(C)]
-#[derive(Drop)]
+#[derive(Clone, Copy)]
 pub struct WheelUnit {
     pub bootloader_len: u64,
     pub fram_len: u64,
@@ -49,7 +49,7 @@ pub struct WheelUnit {
 // The unit's record afterwards, how many bytes of a reply buffer are to be sent, 01's number of the answer, the port on which they are to be sent,
 // from whose reply buffer, and what a command cost.
 #[repr(C)]
-#[derive(Drop)]
+#[derive(Clone, Copy)]
 pub struct WheelStepped {
     pub unit: WheelUnit,
     pub sent: u64,
@@ -60,7 +60,7 @@ pub struct WheelStepped {
 
 // What the last of many bytes gave back, and how many were taken.
 #[repr(C)]
-#[derive(Drop)]
+#[derive(Clone, Copy)]
 pub struct WheelMany {
     pub last: WheelStepped,
     pub taken: u64,
@@ -68,7 +68,7 @@ pub struct WheelMany {
 
 // How many bytes of the reply buffer are packed, and 01's number of packing.
 #[repr(C)]
-#[derive(Drop)]
+#[derive(Clone, Copy)]
 pub struct WheelPacked {
     pub sent: u64,
     pub answer: u8,

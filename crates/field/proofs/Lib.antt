@@ -1,5 +1,4 @@
 pub mod Ends
-pub mod Held
 pub mod Lists
 pub mod Words
 pub mod Places

@@ -17,7 +17,7 @@ pub fn past_at(field: &[u8], at: usize, width: usize) -> usize
 }
 
 // A reader over a data field: it holds the field and its place.
-#[derive(Drop)]
+#[derive(Clone, Copy)]
 pub struct Reader<'a> {
     pub field: &'a [u8],
     pub at: usize,

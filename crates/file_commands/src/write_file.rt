@@ -67,7 +67,7 @@ fn store_files(edac: &mut [u8], field: &[u8], start: usize)
 }
 
 // What storing a list comes to: stored, an unfit list, or EDAC memory that is not 1,536 bytes long.
-#[derive(Drop)]
+#[derive(Clone, Copy)]
 pub enum Storing {
     Stored,
     Unfit,

@@ -13,7 +13,7 @@ use memory::edac::EDAC_SIZE;
 use ports::count_of;
 
 // Whether a call can be served.
-#[derive(Drop)]
+#[derive(Clone, Copy)]
 pub enum Fit {
     Fits,
     Unfit(Answer),

@@ -17,7 +17,7 @@ use ports::{Answered, Ports, Side};
 
 // What the unit is between two calls: its strap, the most data bytes of a message on its bus, its mode, whether bootloader FRAM is
 // locked, the lengths of bootloader FRAM and of user FRAM that were set up, and its two ports.
-#[derive(Drop)]
+#[derive(Clone, Copy)]
 pub struct Unit {
     pub strap: u8,
     pub limit: u16,
@@ -29,7 +29,7 @@ pub struct Unit {
 }
 
 // The lengths of what is lent to a call.
-#[derive(Drop)]
+#[derive(Clone, Copy)]
 pub struct Lengths {
     pub edac: usize,
     pub bootloader: usize,
@@ -44,7 +44,7 @@ pub struct Lengths {
 }
 
 // What a byte brings about.
-#[derive(Drop)]
+#[derive(Clone, Copy)]
 pub enum Verdict {
     // An answer, and nothing to do.
     Quiet(Answer),
@@ -55,7 +55,7 @@ pub enum Verdict {
 }
 
 // A verdict with the unit afterwards.
-#[derive(Drop)]
+#[derive(Clone, Copy)]
 pub struct Judged {
     pub unit: Unit,
     pub verdict: Verdict,

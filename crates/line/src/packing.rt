@@ -12,7 +12,7 @@ pub const MESSAGE_SIZE: usize = 1_033;
 
 pub const REPLY_SIZE: usize = 2_068;
 
-#[derive(Drop)]
+#[derive(Clone, Copy)]
 pub enum Packed {
     // This many bytes are written, from the start of the reply buffer.
     Sent(usize),

@@ -6,7 +6,7 @@ ghost use Rattle.line.specs.Receiver.{reception_of, receive_of, taken_of, stored
 use super::framing::{FEND, FESC, TFEND, TFESC};
 
 // Where the receiver stands.
-#[derive(Drop)]
+#[derive(Clone, Copy)]
 pub enum Place {
     // No FEND has come yet.
     Fresh,
@@ -19,14 +19,14 @@ pub enum Place {
 }
 
 // `count` is the number of bytes unpacked in this run; it stops at one above the largest message, or at the fault.
-#[derive(Drop)]
+#[derive(Clone, Copy)]
 pub struct Receiver {
     pub place: Place,
     pub count: usize,
 }
 
 // What one byte brought about.
-#[derive(Drop)]
+#[derive(Clone, Copy)]
 pub enum Heard {
     // The byte was taken, and no run closed.
     Taken,
@@ -38,7 +38,7 @@ pub enum Heard {
     Message(usize),
 }
 
-#[derive(Drop)]
+#[derive(Clone, Copy)]
 pub struct Received {
     pub receiver: Receiver,
     pub heard: Heard,

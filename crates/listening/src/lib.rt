@@ -13,14 +13,14 @@ use line::receiver::{Place, Receiver, receive};
 use ports::{Port, Side, hear, is_open};
 
 // The port after some bytes, and how many there were.
-#[derive(Drop)]
+#[derive(Clone, Copy)]
 pub struct Listened {
     pub port: Port,
     pub taken: usize,
 }
 
 // The count of a run after some bytes of it, and how many there were.
-#[derive(Drop)]
+#[derive(Clone, Copy)]
 struct Stretch {
     pub count: usize,
     pub taken: usize,

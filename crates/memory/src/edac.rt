@@ -12,11 +12,11 @@ pub const EDAC_SIZE: usize = 1536;
 pub const MODE: usize = 0x5c3;
 
 // Counts words of four bytes.
-#[derive(Drop)]
+#[derive(Clone, Copy)]
 pub struct FileAddress(pub u8);
 
 // Counts bytes.
-#[derive(Drop)]
+#[derive(Clone, Copy)]
 pub struct EdacAddress(pub u16);
 
 impl FileAddress {

@@ -10,55 +10,55 @@ use line::receiver::{Heard, Place, Receiver};
 use memory::counts::count_up;
 
 // One of the two ports.
-#[derive(Drop)]
+#[derive(Clone, Copy)]
 pub enum Side {
     Zero,
     One,
 }
 
 // What a port is between two calls: its receiver, or the count of a run that is thrown away up to its FEND.
-#[derive(Drop)]
+#[derive(Clone, Copy)]
 pub enum Port {
     Hearing(Receiver),
     Throwing(usize),
 }
 
-#[derive(Drop)]
+#[derive(Clone, Copy)]
 pub struct Ports {
     pub port0: Port,
     pub port1: Port,
 }
 
 // Whether each port is sending now.
-#[derive(Drop)]
+#[derive(Clone, Copy)]
 pub struct Sending {
     pub port0: bool,
     pub port1: bool,
 }
 
 // The port after one byte, and what was heard.
-#[derive(Drop)]
+#[derive(Clone, Copy)]
 pub struct Got {
     pub port: Port,
     pub heard: Heard,
 }
 
 // Both ports after one byte on one of them, and what was heard.
-#[derive(Drop)]
+#[derive(Clone, Copy)]
 pub struct GotOn {
     pub ports: Ports,
     pub heard: Heard,
 }
 
 // Where a message is answered that came in on some port: on a port, or nowhere, since its address is not heard there.
-#[derive(Drop)]
+#[derive(Clone, Copy)]
 pub enum Answered {
     On(Side),
     Nowhere,
 }
 
 // What becomes of the reply to a command: there is none, its port is sending and it is lost, or it leaves.
-#[derive(Drop)]
+#[derive(Clone, Copy)]
 pub enum Fate {
     Nothing,
     Lost,

@@ -8,7 +8,7 @@ use crate::list::READ_ONLY;
 use memory::edac::EDAC_SIZE;
 
 // Bytes that stand alike, and the address after the last of them.
-#[derive(Drop)]
+#[derive(Clone, Copy)]
 pub struct Run {
     pub read_only: bool,
     pub end: usize,

@@ -17,14 +17,14 @@ use listening::listen_on;
 use ports::{Sending, Side};
 
 // How many bytes were taken, and what the last of them gave back.
-#[derive(Drop)]
+#[derive(Clone, Copy)]
 pub struct Many {
     pub last: Stepped,
     pub taken: usize,
 }
 
 // The unit after bytes that were only heard, and how many there were.
-#[derive(Drop)]
+#[derive(Clone, Copy)]
 struct Quiet {
     pub unit: Unit,
     pub taken: usize,
