@@ -4,5 +4,4 @@ pub mod Parts
 pub mod Room
 pub mod Settled
 pub mod Storing
-pub mod Started
 pub mod Limits
