@@ -1,5 +1,4 @@
 -- `crc::bit_step` meets its contract, by that of `gated`. Assumes nothing.
-use borrow.Author.Rules.{rules}
 use mathlib.Core.Path.{ap}
 use Prim.Native.Nat.{ℕ, ◌/◌}
 use lib.Bits.{bit_xor}

@@ -1,6 +1,5 @@
 -- `crc::by_chunks` meets its contract: sixteen bytes stand for the whole chunks, and what is left comes
 -- behind them. Assumes nothing.
-use borrow.Author.Rules.{rules}
 use native.Mathlib.Omega.{arith}
 use Rattle.crc.proofs.Words.{each_below}
 use Rattle.crc.proofs.Chunks.{standing_size, all_in_chunks, chunks_and_more}

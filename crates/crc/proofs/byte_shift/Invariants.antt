@@ -1,10 +1,7 @@
 -- `crc::byte_shift` meets its contract. The invariant: the steps that are left bring the sum to where eight bring it.
 -- Assumes nothing.
-use mathlib.Core.Path.{◌≡◌, refl, ◌∙◌}
-use borrow.Author.Rules.{rules}
-use native.Mathlib.Omega.{arith}
+use mathlib.Core.Path.{◌≡◌}
 use Rattle.crc.specs.Sum.{bit_steps}
-use Rattle.crc.proofs.Turns.{steps_turn, steps_end}
 use Rattle.crc.proofs.byte_shift.Given as goal
 
 abbrev pub invariant-loop-left : goal.invariant-loop-left

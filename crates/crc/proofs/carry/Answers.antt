@@ -1,11 +1,6 @@
 -- `crc::carry` meets its contract. The invariant: what is carried so far, after the steps that are left, with the product
 -- of the digits that are left is the whole product. Assumes nothing.
-use mathlib.Core.Path.{◌≡◌, ◌∙◌}
-use borrow.Author.Rules.{rules}
-use native.Mathlib.Omega.{arith}
-use lib.Bits.{bit_xor}
-use Rattle.crc.specs.Sum.{bit_steps}
-use Rattle.crc.specs.Joining.{product}
+use mathlib.Core.Path.{◌∙◌}
 use Rattle.crc.proofs.Turns.{product_start, product_turn, product_end}
 use Rattle.crc.proofs.carry.Goals as goal
 

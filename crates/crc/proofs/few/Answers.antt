@@ -1,9 +1,6 @@
 -- `crc::few` meets its contract. The invariant: the sum so far goes on over the bytes that are left. Assumes nothing.
-use mathlib.Core.Path.{◌≡◌, refl, ◌∙◌}
-use Prim.Native.Nat.{◌≤◌, ◌-◌}
+use mathlib.Core.Path.{refl, ◌∙◌}
 use native.Mathlib.Omega.{arith}
-use lib.ListN.{length, drop}
-use Rattle.crc.specs.Sum.{sum_from}
 use Rattle.crc.proofs.Turns.{sum_turn, sum_end}
 use Rattle.crc.proofs.few.Goals as goal
 

@@ -1,10 +1,8 @@
 -- `crc::few` meets its contract. The invariant: the sum so far goes on over the bytes that are left. Assumes nothing.
-use mathlib.Core.Path.{◌≡◌, refl, ◌∙◌}
+use mathlib.Core.Path.{◌≡◌}
 use Prim.Native.Nat.{◌≤◌, ◌-◌}
-use native.Mathlib.Omega.{arith}
 use lib.ListN.{length, drop}
 use Rattle.crc.specs.Sum.{sum_from}
-use Rattle.crc.proofs.Turns.{sum_turn, sum_end}
 use Rattle.crc.proofs.few.Given as goal
 
 abbrev pub invariant-loop-i : goal.invariant-loop-i

@@ -1,10 +1,7 @@
 -- `crc::over` meets its contract. The invariant: the sum so far goes on over the bytes that are left. Assumes nothing.
-use mathlib.Core.Path.{◌≡◌, refl, ◌∙◌}
-use Prim.Native.Nat.{◌+◌, ◌-◌, ◌*◌, ◌/◌, ◌%◌, ◌≤◌}
-use borrow.Author.Rules.{rules}
+use mathlib.Core.Path.{refl, ◌∙◌}
+use Prim.Native.Nat.{◌+◌}
 use native.Mathlib.Omega.{arith}
-use lib.ListN.{length, drop}
-use Rattle.crc.specs.Sum.{sum_from}
 use Rattle.crc.proofs.Turns.{sum_turn, two_turn, sum_end}
 use Rattle.crc.proofs.over.Goals as goal
 

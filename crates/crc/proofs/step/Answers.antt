@@ -1,5 +1,4 @@
 -- `crc::step` meets its contract: the low byte's entry of the table, and the high byte moved down. Assumes nothing.
-use borrow.Author.Rules.{rules}
 use lib.Bits.{bit_xor}
 use Rattle.crc.specs.Sum.{byte_step}
 use Rattle.crc.proofs.ByteSteps.{by_the_table}

@@ -1,5 +1,4 @@
 -- `crc::step_bare` meets its contract: what it makes of a byte was tested for every byte. Assumes nothing.
-use borrow.Author.Rules.{rules}
 use native.Mathlib.Omega.{arith}
 use lib.Bits.{bit_xor}
 use Rattle.crc.specs.Sum.{byte_step}

@@ -1,5 +1,4 @@
 -- `crc::step_two` meets its contract: the table once for each of the two bytes. Assumes nothing.
-use borrow.Author.Rules.{rules}
 use Rattle.crc.specs.Sum.{byte_step}
 use Rattle.crc.proofs.ByteSteps.{two_by_the_table}
 use Rattle.crc.proofs.step_two.Goals as goal

@@ -1,5 +1,4 @@
 -- `crc::sum` meets its contract: either way goes on from the start value. Assumes nothing.
-use borrow.Author.Rules.{rules}
 use Rattle.crc.specs.Sum.{sum_of}
 use Rattle.crc.proofs.sum.Goals as goal
 

@@ -1,9 +1,6 @@
 -- `folding::fold` meets its contract. The invariant: what is left of the fold, at the words from i on, gives the whole. Assumes nothing.
-use mathlib.Core.Path.{◌≡◌, refl, ◌∙◌}
-use Prim.Native.Nat.{◌≤◌, ◌-◌}
+use mathlib.Core.Path.{refl, ◌∙◌}
 use native.Mathlib.Omega.{arith}
-use lib.ListN.{drop}
-use Rattle.folding.specs.Folding.{folded}
 use Rattle.folding.proofs.Turns.{fold_turn, fold_end}
 use Rattle.folding.proofs.fold.Goals as goal
 

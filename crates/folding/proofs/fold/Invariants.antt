@@ -1,10 +1,8 @@
 -- `folding::fold` meets its contract. The invariant: what is left of the fold, at the words from i on, gives the whole. Assumes nothing.
-use mathlib.Core.Path.{◌≡◌, refl, ◌∙◌}
+use mathlib.Core.Path.{◌≡◌}
 use Prim.Native.Nat.{◌≤◌, ◌-◌}
-use native.Mathlib.Omega.{arith}
 use lib.ListN.{drop}
 use Rattle.folding.specs.Folding.{folded}
-use Rattle.folding.proofs.Turns.{fold_turn, fold_end}
 use Rattle.folding.proofs.fold.Given as goal
 
 abbrev pub invariant-loop-i : goal.invariant-loop-i

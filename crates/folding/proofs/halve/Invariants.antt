@@ -1,11 +1,9 @@
 -- `folding::halve` meets its contract. The invariant: the digits of the first i words are in place. Assumes nothing.
 use mathlib.Core.Path.{◌≡◌}
 use Prim.Native.Nat.{◌≤◌, ◌*◌, ◌-◌}
-use native.Mathlib.Omega.{arith}
 use lib.ListN.{drop}
-use lib.Seq.{paste, paste-zero}
+use lib.Seq.{paste}
 use Rattle.folding.specs.Folding.{halves_of}
-use Rattle.folding.proofs.Turns.{halve_turn, halve_end}
 use Rattle.folding.proofs.halve.Given as goal
 
 abbrev pub invariant-loop-i : goal.invariant-loop-i

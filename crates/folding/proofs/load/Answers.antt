@@ -1,15 +1,13 @@
 -- `folding::load` meets its contract. The invariant: the first i words of the chunk are in place. Assumes nothing.
-use mathlib.Core.Path.{◌≡◌}
-use Prim.Native.Nat.{◌≤◌, ◌-◌}
 use native.Mathlib.Omega.{arith}
-use lib.Seq.{paste, paste-zero}
+use lib.Seq.{paste-zero}
 use Rattle.folding.specs.Folding.{words_of}
 use Rattle.folding.proofs.Turns.{length_words_of, copy_all, load_turn}
 use Rattle.folding.proofs.load.Goals as goal
 
 pub loop-i-init : goal.loop-i-init
 loop-i-init c = let args = c.args in
- (omega arith, paste-zero args.words.now 16 (words_of args.chunk.now))
+    (omega arith, paste-zero args.words.now 16 (words_of args.chunk.now))
 
 pub loop-i-preserved : goal.loop-i-preserved
 loop-i-preserved c =

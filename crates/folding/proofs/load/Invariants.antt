@@ -1,10 +1,8 @@
 -- `folding::load` meets its contract. The invariant: the first i words of the chunk are in place. Assumes nothing.
 use mathlib.Core.Path.{◌≡◌}
 use Prim.Native.Nat.{◌≤◌, ◌-◌}
-use native.Mathlib.Omega.{arith}
-use lib.Seq.{paste, paste-zero}
+use lib.Seq.{paste}
 use Rattle.folding.specs.Folding.{words_of}
-use Rattle.folding.proofs.Turns.{length_words_of, copy_all, load_turn}
 use Rattle.folding.proofs.load.Given as goal
 
 abbrev pub invariant-loop-i : goal.invariant-loop-i

@@ -1,9 +1,8 @@
 -- `folding::low_bytes` meets its contract. The invariant: the first i bytes are in place. Assumes nothing.
-use mathlib.Core.Path.{◌≡◌, refl, ◌∙◌}
-use Prim.Native.Nat.{◌≤◌, ◌-◌}
+use mathlib.Core.Path.{refl, ◌∙◌}
 use native.Mathlib.Omega.{arith}
-use lib.ListN.{length, drop}
-use lib.Seq.{paste, paste-zero}
+use lib.ListN.{drop}
+use lib.Seq.{paste-zero}
 use Rattle.folding.specs.Folding.{low_bytes}
 use Rattle.folding.proofs.Turns.{length_upper, length_low_bytes, copy_all, low_turn}
 use Rattle.folding.proofs.low_bytes.Goals as goal

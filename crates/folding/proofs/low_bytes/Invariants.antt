@@ -1,11 +1,9 @@
 -- `folding::low_bytes` meets its contract. The invariant: the first i bytes are in place. Assumes nothing.
-use mathlib.Core.Path.{◌≡◌, refl, ◌∙◌}
+use mathlib.Core.Path.{◌≡◌}
 use Prim.Native.Nat.{◌≤◌, ◌-◌}
-use native.Mathlib.Omega.{arith}
 use lib.ListN.{length, drop}
-use lib.Seq.{paste, paste-zero}
+use lib.Seq.{paste}
 use Rattle.folding.specs.Folding.{low_bytes}
-use Rattle.folding.proofs.Turns.{length_upper, length_low_bytes, copy_all, low_turn}
 use Rattle.folding.proofs.low_bytes.Given as goal
 
 abbrev pub invariant-loop-i : goal.invariant-loop-i

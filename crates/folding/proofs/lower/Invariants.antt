@@ -1,10 +1,8 @@
 -- `folding::lower` meets its contract. The invariant: the first i words are those of the upper half. Assumes nothing.
 use mathlib.Core.Path.{◌≡◌}
 use Prim.Native.Nat.{◌≤◌, ◌-◌}
-use native.Mathlib.Omega.{arith}
 use lib.ListN.{drop}
-use lib.Seq.{paste, paste-zero}
-use Rattle.folding.proofs.Turns.{length_upper, copy_end, lower_turn}
+use lib.Seq.{paste}
 use Rattle.folding.proofs.lower.Given as goal
 
 abbrev pub invariant-loop-i : goal.invariant-loop-i

@@ -1,11 +1,9 @@
 -- `folding::reduce` meets its contract. The invariant: the chunks that are left, folded behind the upper half, give what all
 -- of them give. Assumes nothing.
-use mathlib.Core.Path.{◌≡◌, refl, ap, ◌∙◌}
-use Prim.Native.Nat.{◌-◌, ◌/◌, ◌%◌, ◌≤◌}
+use mathlib.Core.Path.{refl, ap, ◌∙◌}
 use native.Mathlib.Omega.{arith}
-use lib.ListN.{length, drop}
+use lib.ListN.{drop}
 use lib.Seq.{length-take-le}
-use Rattle.folding.specs.Folding.{folded_through, chunks_folded}
 use Rattle.folding.proofs.Reducing.{chunk_size, chunks_start, chunks_turn, chunks_end}
 use Rattle.folding.proofs.reduce.Goals as goal
 

@@ -1,12 +1,9 @@
 -- `folding::reduce` meets its contract. The invariant: the chunks that are left, folded behind the upper half, give what all
 -- of them give. Assumes nothing.
-use mathlib.Core.Path.{◌≡◌, refl, ap, ◌∙◌}
+use mathlib.Core.Path.{◌≡◌}
 use Prim.Native.Nat.{◌-◌, ◌/◌, ◌%◌, ◌≤◌}
-use native.Mathlib.Omega.{arith}
 use lib.ListN.{length, drop}
-use lib.Seq.{length-take-le}
 use Rattle.folding.specs.Folding.{folded_through, chunks_folded}
-use Rattle.folding.proofs.Reducing.{chunk_size, chunks_start, chunks_turn, chunks_end}
 use Rattle.folding.proofs.reduce.Given as goal
 
 abbrev pub invariant-loop-at : goal.invariant-loop-at

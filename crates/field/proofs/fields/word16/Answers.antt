@@ -1,6 +1,5 @@
 -- `field::fields::word16` meets its contract: a byte at or behind the end counts as 0, and at + 1 is at most the length. Assumes nothing.
 use mathlib.Core.Path.{◌∙◌}
-use borrow.Author.Rules.{rules}
 use Rattle.field.proofs.Ends.{no_word16, low_byte_alone}
 use Rattle.field.proofs.fields.word16.Goals as goal
 

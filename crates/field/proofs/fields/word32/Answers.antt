@@ -1,5 +1,4 @@
 -- `field::fields::word32` meets its contract: behind the end every byte counts as 0. Assumes nothing.
-use borrow.Author.Rules.{rules}
 use Rattle.field.proofs.Ends.{no_word32}
 use Rattle.field.proofs.fields.word32.Goals as goal
 

@@ -1,7 +1,6 @@
 -- `field::reader::past_at` meets its contract, by its two tests. Assumes nothing.
 use mathlib.Core.Path.{sym}
 use native.Mathlib.Omega.{arith}
-use borrow.Author.Rules.{rules}
 use Rattle.field.proofs.Places.{place_behind, same_place}
 use Rattle.field.proofs.reader.past_at.Goals as goal
 

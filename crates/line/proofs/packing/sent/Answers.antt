@@ -15,4 +15,4 @@ returns-then-n-reply c =
 
 pub returns-else-n-reply : goal.returns-else-n-reply
 returns-else-n-reply c = let a = c.args in
- let h : length a.reply.now ≤ a.n = search rules in rw take_all
+    let h : length a.reply.now ≤ a.n = search rules in rw take_all

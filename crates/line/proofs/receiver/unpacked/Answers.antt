@@ -1,6 +1,5 @@
 -- `line::receiver::unpacked` meets its contract: it is what `store`, `counted` and `taken` say, put together.
 -- Assumes nothing.
-use borrow.Author.Rules.{rules}
 use Rattle.line.proofs.Receiving.{unpacking_is_storing_and_counting}
 use Rattle.line.proofs.receiver.unpacked.Goals as goal
 

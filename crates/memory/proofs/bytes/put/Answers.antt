@@ -1,10 +1,7 @@
 -- `memory::bytes::put` meets its contract. The invariant: the first i bytes are in place. Assumes nothing.
-use mathlib.Core.Path.{◌≡◌}
-use Prim.Native.Nat.{◌≤◌, ◌-◌}
 use borrow.Author.Rules.{rules}
 use native.Mathlib.Omega.{arith}
-use lib.ListN.{length}
-use lib.Seq.{paste, paste-zero}
+use lib.Seq.{paste-zero}
 use Rattle.memory.proofs.Turns.{copy_turn, copy_length, copy_end}
 use Rattle.memory.proofs.bytes.put.Goals as goal
 

@@ -1,6 +1,5 @@
 -- `memory::counts::count_up` meets its contract, by one law for each way. Assumes nothing.
 use Rattle.memory.proofs.Tests.{no_such_count, one_more, no_more}
-use borrow.Author.Rules.{rules}
 use native.Mathlib.Omega.{arith}
 use Rattle.memory.proofs.counts.count_up.Goals as goal
 

@@ -1,6 +1,5 @@
 -- `memory::edac::holds` meets its contract, by one law for each way. Assumes nothing.
 use Rattle.memory.proofs.Tests.{too_long_for_edac, starts_early_enough}
-use borrow.Author.Rules.{rules}
 use Rattle.memory.proofs.edac.holds.Goals as goal
 
 pub returns-then-count-gt-EDAC_SIZE : goal.returns-then-count-gt-EDAC_SIZE

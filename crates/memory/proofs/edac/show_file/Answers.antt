@@ -3,7 +3,6 @@ use mathlib.Core.Path.{◌∙◌}
 use native.Mathlib.Omega.{arith}
 use lib.ListN.{length-set, length-take, length-drop}
 use Rattle.memory.proofs.Files.{size_of_file_0, size_of_another, show_file_0, show_another}
-use borrow.Author.Rules.{rules}
 use Rattle.memory.proofs.edac.show_file.Goals as goal
 
 pub bounds-reply-at-then-file-eq0 : goal.bounds-reply-at-then-file-eq0

@@ -1,6 +1,5 @@
 -- `memory::edac::FileAddress::bytes` meets its contract: the one conversion, by four. Assumes nothing.
 use mathlib.Core.Path.{refl}
-use borrow.Author.Rules.{rules}
 use Rattle.memory.proofs.edac.FileAddress.bytes.Goals as goal
 
 pub returns : goal.returns
