@@ -1,7 +1,6 @@
 -- `listening::is_closing` meets its contract. Assumes nothing.
 use mathlib.Core.Path.{◌∙◌}
 use Rattle.listening.proofs.Going.{a_fend_closes_what_is_open, another_closes_nothing}
-use borrow.Author.Rules.{rules}
 use Rattle.listening.proofs.is_closing.Goals as goal
 
 pub returns-then-byte-eq-FEND : goal.returns-then-byte-eq-FEND

@@ -1,10 +1,9 @@
 -- `listening::listen` meets its contract: at each turn a byte that closes nothing is heard, and with it those of its run that stand for
 -- themselves (`Along`). Assumes nothing.
-use Prim.Native.Nat.{◌+◌, ◌-◌}
+use Prim.Native.Nat.{◌+◌}
 use mathlib.Core.Bool.{not}
 use mathlib.Core.Path.{ap, sym, ◌∙◌}
-use lib.ListN.{length}
-use Rattle.listening.proofs.Going.{it_stays_open, it_is_shut, the_part_behind, Along, nothing_taken, a_byte_more, more_of_them, all_taken, up_to_a_close}
+use Rattle.listening.proofs.Going.{it_stays_open, it_is_shut, the_part_behind, nothing_taken, a_byte_more, more_of_them, all_taken, up_to_a_close}
 use borrow.Author.Rules.{rules}
 use Rattle.listening.proofs.listen.Goals as goal
 

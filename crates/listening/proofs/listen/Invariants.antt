@@ -1,10 +1,8 @@
 -- `listening::listen` meets its contract: at each turn a byte that closes nothing is heard, and with it those of its run that stand for
 -- themselves (`Along`). Assumes nothing.
-use Prim.Native.Nat.{◌+◌, ◌-◌}
-use mathlib.Core.Path.{sym, ◌∙◌}
+use Prim.Native.Nat.{◌-◌}
 use lib.ListN.{length}
-use Rattle.listening.proofs.Going.{it_stays_open, it_is_shut, the_part_behind, Along, nothing_taken, a_byte_more, more_of_them, all_taken, up_to_a_close}
-use borrow.Author.Rules.{rules}
+use Rattle.listening.proofs.Going.{Along}
 use Rattle.listening.proofs.listen.Given as goal
 
 abbrev pub invariant-loop-taken : goal.invariant-loop-taken

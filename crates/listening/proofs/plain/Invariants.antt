@@ -1,11 +1,9 @@
 -- `listening::plain` meets its contract: at each turn one byte more of the run is taken (`Along`). Assumes nothing.
 use Prim.Native.Nat.{◌-◌}
-use mathlib.Core.Path.{sym, ◌∙◌}
 use lib.ListN.{length}
 use Rattle.line.specs.declared.receiver.Place.TheVariants.{Run}
 use Rattle.ports.specs.declared.Port.TheVariants.{Hearing}
-use Rattle.listening.proofs.Going.{Along, nothing_taken, a_plain_byte_more}
-use borrow.Author.Rules.{rules}
+use Rattle.listening.proofs.Going.{Along}
 use Rattle.listening.proofs.plain.Given as goal
 
 abbrev pub invariant-loop-taken : goal.invariant-loop-taken

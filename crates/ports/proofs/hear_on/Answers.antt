@@ -1,6 +1,5 @@
 -- `ports::hear_on` meets its contract, on either port. Assumes nothing.
 use Rattle.ports.proofs.Ways.{heard_on_0, heard_on_1}
-use borrow.Author.Rules.{rules}
 use Rattle.ports.proofs.hear_on.Goals as goal
 
 pub returns-in-Zero : goal.returns-in-Zero

@@ -1,6 +1,5 @@
 -- `ports::is_open` meets its contract, by where the receiver stands. Assumes nothing.
 use Rattle.ports.proofs.Ways.{none_before_the_first_fend, one_with_bytes, one_with_an_escape, one_with_a_fault, none_to_throw_away_twice}
-use borrow.Author.Rules.{rules}
 use Rattle.ports.proofs.is_open.Goals as goal
 
 pub returns-in-Fresh : goal.returns-in-Fresh

@@ -15,4 +15,4 @@ returns-then-n-buffer c =
 
 pub returns-else-n-buffer : goal.returns-else-n-buffer
 returns-else-n-buffer c = let a = c.args in
- let h : length a.buffer.now ≤ a.n = search rules in rw take_all
+    let h : length a.buffer.now ≤ a.n = search rules in rw take_all

@@ -1,7 +1,6 @@
 -- `ports::settle` meets its contract, by what becomes of the reply. Assumes nothing.
 use mathlib.Core.Path.{sym, ◌∙◌}
 use Rattle.ports.proofs.Ways.{no_reply, a_reply_lost, a_reply_that_throws_nothing_away, a_reply_that_throws_a_run_away}
-use borrow.Author.Rules.{rules}
 use Rattle.ports.proofs.settle.Goals as goal
 
 pub returns-then-is_open : goal.returns-then-is_open

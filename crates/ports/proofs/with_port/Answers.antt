@@ -1,6 +1,5 @@
 -- `ports::with_port` meets its contract, by its port. Assumes nothing.
 use Rattle.ports.proofs.Ways.{port_0_set, port_1_set}
-use borrow.Author.Rules.{rules}
 use Rattle.ports.proofs.with_port.Goals as goal
 
 pub returns-in-Zero : goal.returns-in-Zero

@@ -6,7 +6,7 @@ use borrow.Author.Rules.{rules}
 use native.Mathlib.Omega.{arith}
 use lib.ListN.{get_or, take}
 use Rattle.read_only.specs.Listed.{first, rising, run_in}
-use Rattle.read_only.proofs.Listed.{a_row_lies_below, a_place_to_cut, before_a_cut, behind_a_cut, to_the_end}
+use Rattle.read_only.proofs.Listed.{a_place_to_cut, before_a_cut, behind_a_cut, to_the_end}
 use Rattle.read_only.proofs.rows.halved.Goals as goal
 
 pub offset_bounds-rows-place : goal.offset_bounds-rows-place

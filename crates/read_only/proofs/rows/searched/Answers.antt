@@ -1,10 +1,9 @@
 -- `read_only::rows::searched` meets its contract: of either half, that it may be cut out, and cut again. Assumes nothing.
 use mathlib.Core.Path.{sym, ap, ◌∙◌}
-use borrow.Author.Rules.{rules}
 use native.Mathlib.Omega.{arith}
 use Rattle.memory.specs.Edac.{edac_size}
 use Rattle.read_only.specs.Listed.{rising, run_in, apart}
-use Rattle.read_only.proofs.Listed.{a_row_lies_below, a_place_to_cut, before_a_cut, behind_a_cut, apart_before, apart_behind, to_the_end, what_is_searchable}
+use Rattle.read_only.proofs.Listed.{a_place_to_cut, before_a_cut, behind_a_cut, apart_before, apart_behind, to_the_end, what_is_searchable}
 use Rattle.read_only.proofs.rows.searched.Goals as goal
 
 pub bounds-rows-19 : goal.bounds-rows-19

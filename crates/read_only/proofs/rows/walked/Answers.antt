@@ -1,13 +1,10 @@
 -- `read_only::rows::walked` meets its contract. The invariant: the address lies before the rows that are walked already, and it is known where
 -- they begin, and where the first of them, with those that touch it, ends. Assumes nothing.
-use mathlib.Core.Path.{◌≡◌, ap, ◌∙◌}
+use mathlib.Core.Path.{ap, ◌∙◌}
 use mathlib.Core.Bool.{true}
-use Prim.Native.Nat.{◌-◌, ◌≤◌, ◌<◌}
-use borrow.Author.Rules.{rules}
+use Prim.Native.Nat.{◌-◌}
 use native.Mathlib.Omega.{arith}
-use lib.ListN.{length, drop}
 use Rattle.read_only.specs.Runs.{run}
-use Rattle.read_only.specs.Listed.{begins, ends}
 use Rattle.read_only.proofs.Listed.{a_row_lies_below, walk_starts, turn_begins, turn_ends, found_in_a_row, found_between, found_before}
 use Rattle.read_only.proofs.rows.walked.Goals as goal
 

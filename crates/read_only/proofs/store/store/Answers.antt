@@ -1,11 +1,8 @@
 -- `read_only::store::store` meets its contract. The invariant: the first i bytes are stored. Assumes nothing.
-use mathlib.Core.Path.{◌≡◌, refl, ◌∙◌}
-use Prim.Native.Nat.{◌≤◌, ◌-◌}
-use borrow.Author.Rules.{rules}
+use mathlib.Core.Path.{refl, ◌∙◌}
 use borrow.Author.Tests.{not-true, not-false}
 use native.Mathlib.Omega.{arith}
-use lib.ListN.{length, take, length-take, length-drop}
-use Rattle.read_only.specs.ReadOnly.{written}
+use lib.ListN.{length, length-take, length-drop}
 use Rattle.read_only.proofs.Runs.{goes_past, step_on, step_alike}
 use Rattle.read_only.proofs.Turns.{store_start, store_end, store_length, writable_turn, read_only_turn}
 use Rattle.read_only.proofs.store.store.Goals as goal

@@ -1,13 +1,8 @@
 -- `read_only::store::store` meets its contract. The invariant: the first i bytes are stored. Assumes nothing.
-use mathlib.Core.Path.{◌≡◌, refl, ◌∙◌}
+use mathlib.Core.Path.{◌≡◌}
 use Prim.Native.Nat.{◌≤◌, ◌-◌}
-use borrow.Author.Rules.{rules}
-use borrow.Author.Tests.{not-true, not-false}
-use native.Mathlib.Omega.{arith}
-use lib.ListN.{length, take, length-take, length-drop}
+use lib.ListN.{length, take}
 use Rattle.read_only.specs.ReadOnly.{written}
-use Rattle.read_only.proofs.Runs.{goes_past, step_on, step_alike}
-use Rattle.read_only.proofs.Turns.{store_start, store_end, store_length, writable_turn, read_only_turn}
 use Rattle.read_only.proofs.store.store.Given as goal
 
 abbrev pub invariant-loop-i : goal.invariant-loop-i

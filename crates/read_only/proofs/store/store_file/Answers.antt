@@ -6,7 +6,6 @@ use lib.ListN.{length-set, length-take, length-drop}
 use Rattle.memory.proofs.Files.{size_of_file_0, size_of_another}
 use Rattle.read_only.proofs.Files.{store_file_0, store_another, leave_another}
 use Rattle.read_only.proofs.Runs.{asked_of_a_run}
-use borrow.Author.Rules.{rules}
 use Rattle.read_only.proofs.store.store_file.Goals as goal
 
 pub bounds-body-0 : goal.bounds-body-0

@@ -1,0 +1,16 @@
+-- `file_commands::read_file::show_files` meets its contract. The invariant: of the whole reply so much is written. Assumes nothing.
+use mathlib.Core.Path.{◌≡◌, refl, sym, ap, ◌∙◌}
+use Prim.Native.Nat.{◌+◌, ◌-◌}
+use native.Mathlib.Omega.{arith}
+use lib.ListN.{length, drop, get_or}
+use Rattle.memory.proofs.Files.{a_file_is_shown_in_its_size}
+use Rattle.file_commands.specs.ReadFile.{files_shown, files_width}
+use Rattle.carrying.proofs.Writing.{Written, nothing_written, more_of_it, end_of_it, size_of_it}
+use Rattle.file_commands.proofs.Lists.{a_byte_on, width_turn, shown_files_turn, shown_files_end}
+use Rattle.file_commands.proofs.read_file.show_files.Given as goal
+
+abbrev pub invariant-loop-at : goal.invariant-loop-at
+invariant-loop-at l = (length l.reply ≡ length l.initial.reply) × (l.place + files_width (drop l.at l.field) ≡ files_width (drop l.start l.field)) × Written l.initial.reply (files_shown l.edac (drop l.start l.field)) (files_shown l.edac (drop l.at l.field)) l.reply l.place
+
+abbrev pub decreases-loop-at : goal.decreases-loop-at
+decreases-loop-at l = length l.field - l.at
