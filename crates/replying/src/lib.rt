@@ -76,8 +76,8 @@ fn send(
 
 // Answers a command, a sound message of `count` bytes, by what it came to. The reply's data stands in `made` from place HEAD on.
 pub fn say(ended: Ended, count: usize, message: &[u8], made: &mut [u8], reply: &mut [u8]) -> Answer
-    requires by_index { (n : ℕ) → ended ≡ came.Done n → n ≤ longest_data }
-    requires shortest_message_le_count { (shortest_message ≤ count) × (count ≤ message_size) × (message_size ≤ length message.now) × (length made.old ≡ message_size) × (reply_size ≤ length reply.old) }
+    requires done_fits { (n : ℕ) → ended ≡ came.Done n → n ≤ longest_data }
+    requires lengths { (shortest_message ≤ count) × (count ≤ message_size) × (message_size ≤ length message.now) × (length made.old ≡ message_size) × (reply_size ≤ length reply.old) }
     ensures { said result reply.new
         ≡ said_of (get_or message.now 0 0) (get_or message.now 1 0) (get_or message.now 2 0)
         (stretch 3 (count - 5) message.now) (ending_of ended made.old) reply.old }
@@ -170,8 +170,8 @@ fn say_by(
     reply0: &mut [u8],
     reply1: &mut [u8],
 ) -> Answer
-    requires by_index { (n : ℕ) → ended ≡ came.Done n → n ≤ longest_data }
-    requires shortest_message_le_count { (shortest_message ≤ count) × (count ≤ message_size) × (message_size ≤ length message.now) × (length made.old ≡ message_size)
+    requires done_fits { (n : ℕ) → ended ≡ came.Done n → n ≤ longest_data }
+    requires lengths { (shortest_message ≤ count) × (count ≤ message_size) × (message_size ≤ length message.now) × (length made.old ≡ message_size)
         × (reply_size ≤ length reply0.old) × (reply_size ≤ length reply1.old) }
     ensures { said_on result (both reply0.new reply1.new)
         ≡ said_by_of side (get_or message.now 0 0) (get_or message.now 1 0) (get_or message.now 2 0)
@@ -194,8 +194,8 @@ pub fn say_on(
     reply0: &mut [u8],
     reply1: &mut [u8],
 ) -> Answer
-    requires by_index { (n : ℕ) → ended ≡ came.Done n → n ≤ longest_data }
-    requires shortest_message_le_count { (shortest_message ≤ count) × (count ≤ message_size) × (message_size ≤ length message.now) × (length made.old ≡ message_size)
+    requires done_fits { (n : ℕ) → ended ≡ came.Done n → n ≤ longest_data }
+    requires lengths { (shortest_message ≤ count) × (count ≤ message_size) × (message_size ≤ length message.now) × (length made.old ≡ message_size)
         × (reply_size ≤ length reply0.old) × (reply_size ≤ length reply1.old) }
     ensures { said_on result (both reply0.new reply1.new)
         ≡ said_on_of fate side (get_or message.now 0 0) (get_or message.now 1 0) (get_or message.now 2 0)
