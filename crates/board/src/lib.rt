@@ -1,5 +1,5 @@
-// The C face, as `include/wheel.h` declares it: each function passes on to a room below and adds nothing. A name is the
-// whole program's, as in C, so each begins with `wheel_`.
+// The C face, as `include/wheel.h` declares it: each function passes on to a room below and adds nothing. It is a library, for
+// the theorems of c_demands and for Rattle; board_c exports it to C.
 #![tactic(auto)]
 
 ghost use Rattle.std.specs.Prelude.{◌≡◌};
@@ -17,29 +17,25 @@ ghost use Rattle.face.specs.Records.{lock_in, sending_in, unit_in, returned, ret
 use face::converting::{lock_in, many_out, sending_in, stepped_out, unit_in};
 use face::{WheelJoined, WheelMany, WheelPacked, WheelPart, WheelStepped, WheelUnit};
 
-#[unsafe(no_mangle)]
-pub extern "C" fn wheel_crc(bytes: &[u8]) -> u16
+pub fn wheel_crc(bytes: &[u8]) -> u16
     ensures { result ≡ sum_of bytes.now }
 {
     crc::sum(bytes)
 }
 
-#[unsafe(no_mangle)]
-pub extern "C" fn wheel_crc_from(start: u16, bytes: &[u8]) -> u16
+pub fn wheel_crc_from(start: u16, bytes: &[u8]) -> u16
     ensures { result ≡ sum_from start bytes.now }
 {
     crc::sum_from(start, bytes)
 }
 
-#[unsafe(no_mangle)]
-pub extern "C" fn wheel_join(first: WheelPart, second: WheelPart) -> WheelJoined
+pub fn wheel_join(first: WheelPart, second: WheelPart) -> WheelJoined
     ensures { result ≡ joined_out (join_of (part_in first) (part_in second)) }
 {
     face::joined(first, second)
 }
 
-#[unsafe(no_mangle)]
-pub extern "C" fn wheel_set_up(
+pub fn wheel_set_up(
     strap: u8,
     limit: u64,
     locked: u8,
@@ -75,8 +71,7 @@ pub extern "C" fn wheel_set_up(
     ))
 }
 
-#[unsafe(no_mangle)]
-pub extern "C" fn wheel_step(
+pub fn wheel_step(
     unit: WheelUnit,
     port: u8,
     byte: u8,
@@ -114,8 +109,7 @@ pub extern "C" fn wheel_step(
     ))
 }
 
-#[unsafe(no_mangle)]
-pub extern "C" fn wheel_steps(
+pub fn wheel_steps(
     unit: WheelUnit,
     number: u8,
     bytes: &[u8],
@@ -154,22 +148,19 @@ pub extern "C" fn wheel_steps(
     ))
 }
 
-#[unsafe(no_mangle)]
-pub extern "C" fn wheel_pack(message: &[u8], reply: &mut [u8]) -> WheelPacked
+pub fn wheel_pack(message: &[u8], reply: &mut [u8]) -> WheelPacked
     ensures { packing_by result reply.new ≡ pack_of message.now reply.old }
 {
     face::packed(message, reply)
 }
 
-#[unsafe(no_mangle)]
-pub extern "C" fn wheel_judge_list(limit: u64, list: &[u8]) -> u8
+pub fn wheel_judge_list(limit: u64, list: &[u8]) -> u8
     ensures { result ≡ yes_out (judge_list_of limit list.now) }
 {
     face::judged(limit, list)
 }
 
-#[unsafe(no_mangle)]
-pub extern "C" fn wheel_store_list(limit: u64, edac: &mut [u8], list: &[u8]) -> u8
+pub fn wheel_store_list(limit: u64, edac: &mut [u8], list: &[u8]) -> u8
     ensures { storage result edac.new ≡ store_list_of limit edac.old list.now }
 {
     face::stored(limit, edac, list)
