@@ -10,4 +10,4 @@ returns-then-place-eq-THROWN c = simp (eq-eqb _ 4 c.if-place-eq-THROWN.true)
 
 pub returns : goal.returns
 unfolding port_in
-returns c = simp (ne_eqb _ 4 c.if-place-eq-THROWN.false, c.place_in.ensures)
+returns c = simp (ne_eqb _ 4 c.if-place-eq-THROWN.false, c.place_in-stands.ensures)
