@@ -59,21 +59,16 @@ fn closed(flow: Flow) -> Flow {
     now
 }
 
-// After a read that failed: one that a signal broke off is tried again, any other is said and ends the flow.
-fn read_failed(rt: &impl Eprint, flow: Flow, error: Error) -> Flow {
+// After a read or a write that failed: one that a signal broke off is tried again, any other is said and ends the flow.
+fn failed(rt: &impl Eprint, flow: Flow, is_input: bool, error: Error) -> Flow {
     if error.kind() == ErrorKind::Interrupted {
         return flow;
     }
-    report::read_failed(rt, error);
-    closed(flow)
-}
-
-// The same of a write.
-fn write_failed(rt: &impl Eprint, flow: Flow, error: Error) -> Flow {
-    if error.kind() == ErrorKind::Interrupted {
-        return flow;
+    if is_input {
+        report::read_failed(rt, error);
+    } else {
+        report::write_failed(rt, flow.port, error);
     }
-    report::write_failed(rt, flow.port, error);
     closed(flow)
 }
 
@@ -111,7 +106,7 @@ fn write_output(rt: &(impl Print + Eprint), flow: Flow, waiting: &[u8]) -> Flow 
     match rt.write_some(waiting) {
         Ok(0) => takes_nothing(rt, flow),
         Ok(n) => written(flow, &waiting[..n]),
-        Err(error) => write_failed(rt, flow, error),
+        Err(error) => failed(rt, flow, false, error),
     }
 }
 
@@ -130,7 +125,7 @@ fn write_file(rt: &impl Eprint, flow: Flow, waiting: &[u8]) -> Flow {
     closed(flow)
 }
 
-// Writes of what waits.
+// Writes some of what waits.
 fn write_once(rt: &(impl Print + Eprint), flow: Flow, buffer: &[u8]) -> Flow {
     let from = flow.from;
     let to = flow.to;
@@ -159,7 +154,7 @@ fn read_once(rt: &impl Eprint, input: &mut impl Read, flow: Flow, buffer: &mut [
             now.end = n;
             now
         }
-        Err(error) => read_failed(rt, flow, error),
+        Err(error) => failed(rt, flow, true, error),
     }
 }
 
