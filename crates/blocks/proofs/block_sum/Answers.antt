@@ -1,6 +1,5 @@
 -- `blocks::block_sum` meets its contract: the part that it lends is the block. Assumes nothing.
 use mathlib.Core.Path.{◌∙◌}
-use borrow.Author.Rules.{rules}
 use Rattle.blocks.proofs.Refreshing.{block_lent}
 use Rattle.blocks.proofs.block_sum.Goals as goal
 

@@ -2,7 +2,6 @@
 -- nothing.
 use mathlib.Core.Path.{◌∙◌}
 use Rattle.blocks.proofs.Refreshing.{all_refreshed_is_fresh}
-use borrow.Author.Rules.{rules}
 use Rattle.blocks.proofs.compute_sums.Goals as goal
 
 pub returns : goal.returns

@@ -1,5 +1,4 @@
 -- `blocks::place` meets its contract, by one law for each answer. Assumes nothing.
-use borrow.Author.Rules.{rules}
 use native.Mathlib.Omega.{arith}
 use Rattle.blocks.proofs.Tests.{before_the_memory, past_the_memory, in_the_memory}
 use Rattle.blocks.proofs.place.Goals as goal

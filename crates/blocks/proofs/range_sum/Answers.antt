@@ -2,7 +2,6 @@
 -- nothing.
 use mathlib.Core.Path.{refl, ◌∙◌}
 use Rattle.blocks.proofs.Ranges.{a_range_that_covers_no_block, a_range_that_covers_blocks}
-use borrow.Author.Rules.{rules}
 use Rattle.blocks.proofs.range_sum.Goals as goal
 
 pub returns-then-end-first : goal.returns-then-end-first

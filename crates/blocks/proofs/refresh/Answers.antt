@@ -1,12 +1,9 @@
 -- `blocks::refresh` meets its contract. The invariant: the sums before block k are as they shall be, and the rest as
 -- they were. Assumes nothing.
-use mathlib.Core.Path.{◌≡◌, refl, ◌∙◌}
-use mathlib.Core.List.{◌++◌}
-use Prim.Native.Nat.{◌≤◌, ◌-◌, ◌/◌}
+use mathlib.Core.Path.{refl, ◌∙◌}
 use borrow.Author.Rules.{rules}
 use native.Mathlib.Omega.{arith}
-use lib.ListN.{length, take, drop, length-set}
-use Rattle.blocks.specs.Fram.{refreshed}
+use lib.ListN.{length-set}
 use Rattle.blocks.proofs.Turns.{refresh_nothing, refresh_start, refresh_turn, refresh_end}
 use Rattle.blocks.proofs.refresh.Goals as goal
 

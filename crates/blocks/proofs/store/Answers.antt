@@ -1,6 +1,5 @@
 -- `blocks::store` meets its contract, by those of `put` and `refresh`. Assumes nothing.
 use Rattle.blocks.proofs.Refreshing.{put_and_refreshed}
-use borrow.Author.Rules.{rules}
 use Rattle.blocks.proofs.store.Goals as goal
 
 pub returns : goal.returns

@@ -15,7 +15,6 @@ use Rattle.command.specs.Ping.{ping_of}
 use Rattle.command.specs.Init.{init_of}
 use Rattle.command.specs.Diagnostic.{diagnostic_of}
 use Rattle.command.proofs.Codes.{in_either_mode, in_application, not_in_bootloader, no_such_code}
-use borrow.Author.Rules.{rules}
 use Rattle.command.proofs.carry_out.Goals as goal
 
 pub returns-in-0 : goal.returns-in-0

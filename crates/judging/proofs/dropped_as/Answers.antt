@@ -4,7 +4,6 @@ use Prim.Native.Nat.{ℕ, ◌+◌}
 use native.Mathlib.Omega.{arith}
 use Rattle.judging.specs.declared.Verdict.TheVariants.{Dropped}
 use Rattle.judging.proofs.Ways.{low_channels}
-use borrow.Author.Rules.{rules}
 use Rattle.judging.proofs.dropped_as.Goals as goal
 
 pub overflow_add-result : goal.overflow_add-result

@@ -1,6 +1,5 @@
 -- `judging::heard_for` meets its contract, by where the message is answered. Assumes nothing.
 use Rattle.judging.proofs.Ways.{a_command_heard, not_heard_here}
-use borrow.Author.Rules.{rules}
 use Rattle.judging.proofs.heard_for.Goals as goal
 
 pub returns-in-On : goal.returns-in-On

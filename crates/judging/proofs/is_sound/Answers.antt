@@ -5,7 +5,6 @@ use native.Mathlib.Nat.{sub-zero}
 use lib.ListN.{take}
 use Rattle.crc.specs.Sum.{sum_of}
 use lib.Dec.{eqb}
-use borrow.Author.Rules.{rules}
 use Rattle.judging.proofs.is_sound.Goals as goal
 
 pub returns : goal.returns

@@ -5,7 +5,6 @@ use Rattle.carrying.proofs.Limits.{within_both_ends}
 use Rattle.ports.specs.Sides.{both}
 use Rattle.judging.proofs.Serving.{a_served_step_fits, a_served_record_is_sound}
 use Rattle.judging.proofs.Ways.{long_enough_of, refused_quietly, received_and_judged}
-use borrow.Author.Rules.{rules}
 use Rattle.judging.proofs.judge.Goals as goal
 
 pub overflow_add-largest : goal.overflow_add-largest
@@ -25,8 +24,8 @@ verdict_of-verdict-requires c =
 
 pub returns-in-Unfit : goal.returns-in-Unfit
 returns-in-Unfit c = let a = c.args in
- refused_quietly a.unit a.port a.byte a.lengths (both a.message0.now a.message1.now) _ (sym c.step_fit-fit.ensures ∙ c.in-Unfit.is)
+    refused_quietly a.unit a.port a.byte a.lengths (both a.message0.now a.message1.now) _ (sym c.step_fit-fit.ensures ∙ c.in-Unfit.is)
 
 pub returns-in-Fits : goal.returns-in-Fits
 returns-in-Fits c = let a = c.args in
- received_and_judged a.unit a.port a.byte a.lengths (both a.message0.now a.message1.now) _ c.hear_on-got.result _ _ _ (sym c.step_fit-fit.ensures ∙ c.in-Fits.is) c.side_of-side.ensures c.hear_on-got.ensures c.heard_by-message.ensures c.verdict_of-verdict.ensures
+    received_and_judged a.unit a.port a.byte a.lengths (both a.message0.now a.message1.now) _ c.hear_on-got.result _ _ _ (sym c.step_fit-fit.ensures ∙ c.in-Fits.is) c.side_of-side.ensures c.hear_on-got.ensures c.heard_by-message.ensures c.verdict_of-verdict.ensures

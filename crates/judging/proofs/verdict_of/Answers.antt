@@ -2,7 +2,6 @@
 use mathlib.Core.Path.{refl}
 use Rattle.judging.specs.Judging.{verdict_of}
 use Rattle.judging.proofs.Ways.{verdict_on}
-use borrow.Author.Rules.{rules}
 use Rattle.judging.proofs.verdict_of.Goals as goal
 
 pub returns-in-Taken : goal.returns-in-Taken

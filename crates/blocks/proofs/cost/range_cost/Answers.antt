@@ -1,7 +1,6 @@
 -- `blocks::cost::range_cost` meets its contract: the cost in numbers. Assumes nothing.
 use native.Mathlib.Omega.{arith}
 use Rattle.blocks.proofs.Counting.{the_cost_in_numbers}
-use borrow.Author.Rules.{rules}
 use Rattle.blocks.proofs.cost.range_cost.Goals as goal
 
 pub returns-then-to-from : goal.returns-then-to-from

@@ -3,7 +3,6 @@
 use Rattle.crc.specs.Sum.{bit_step, bit_steps}
 use Rattle.crc.specs.Joining.{product}
 use Rattle.blocks.proofs.Crossing.{products, the_gap's_table}
-use borrow.Author.Rules.{rules}
 use Rattle.blocks.proofs.gap.across.Goals as goal
 
 pub over-requires : goal.over-requires

@@ -1,6 +1,5 @@
 -- `blocks::gap::cross` meets its contract: each digit's entry of the table. Assumes nothing.
 use Rattle.blocks.proofs.Crossing.{by_the_gap's_table}
-use borrow.Author.Rules.{rules}
 use Rattle.blocks.proofs.gap.cross.Goals as goal
 
 pub returns : goal.returns

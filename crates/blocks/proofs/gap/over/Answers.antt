@@ -1,11 +1,8 @@
 -- `blocks::gap::over` meets its contract. The invariant: the sum so far goes on over the blocks that are left. Assumes
 -- nothing.
-use mathlib.Core.Path.{◌≡◌, refl, ◌∙◌}
-use Prim.Native.Nat.{◌≤◌, ◌-◌}
+use mathlib.Core.Path.{refl, ◌∙◌}
 use borrow.Author.Rules.{rules}
 use native.Mathlib.Omega.{arith}
-use lib.ListN.{length, drop}
-use Rattle.blocks.specs.Fram.{joined_blocks}
 use Rattle.blocks.proofs.Turns.{join_turn, join_end}
 use Rattle.blocks.proofs.gap.over.Goals as goal
 

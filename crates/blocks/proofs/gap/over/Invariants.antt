@@ -1,12 +1,9 @@
 -- `blocks::gap::over` meets its contract. The invariant: the sum so far goes on over the blocks that are left. Assumes
 -- nothing.
-use mathlib.Core.Path.{◌≡◌, refl, ◌∙◌}
+use mathlib.Core.Path.{◌≡◌}
 use Prim.Native.Nat.{◌≤◌, ◌-◌}
-use borrow.Author.Rules.{rules}
-use native.Mathlib.Omega.{arith}
 use lib.ListN.{length, drop}
 use Rattle.blocks.specs.Fram.{joined_blocks}
-use Rattle.blocks.proofs.Turns.{join_turn, join_end}
 use Rattle.blocks.proofs.gap.over.Given as goal
 
 abbrev pub invariant-loop-i : goal.invariant-loop-i

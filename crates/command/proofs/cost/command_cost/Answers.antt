@@ -3,7 +3,6 @@ use mathlib.Core.Path.{sym, ap, ◌∙◌}
 use mathlib.Core.Bool.{cond}
 use borrow.Author.Tests.{eq-eqb, ne_eqb}
 use Rattle.fram_commands.specs.Cost.{crc_cost}
-use borrow.Author.Rules.{rules}
 use Rattle.command.proofs.cost.command_cost.Goals as goal
 
 pub returns-then-code-eq-CRC : goal.returns-then-code-eq-CRC

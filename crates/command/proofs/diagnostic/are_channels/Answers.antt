@@ -1,10 +1,7 @@
 -- `command::diagnostic::are_channels` meets its contract. The invariant: what is left of the list decides the whole.
 -- Assumes nothing.
-use mathlib.Core.Path.{◌≡◌, refl, ◌∙◌}
-use Prim.Native.Nat.{◌≤◌, ◌-◌}
+use mathlib.Core.Path.{refl, ◌∙◌}
 use native.Mathlib.Omega.{arith}
-use lib.ListN.{length, drop}
-use Rattle.command.specs.Diagnostic.{all_channels}
 use Rattle.command.proofs.Channels.{another_channel_stands, channels_go_on, channels_end}
 use Rattle.command.proofs.diagnostic.are_channels.Goals as goal
 

@@ -1,11 +1,9 @@
 -- `command::diagnostic::are_channels` meets its contract. The invariant: what is left of the list decides the whole.
 -- Assumes nothing.
-use mathlib.Core.Path.{◌≡◌, refl, ◌∙◌}
+use mathlib.Core.Path.{◌≡◌}
 use Prim.Native.Nat.{◌≤◌, ◌-◌}
-use native.Mathlib.Omega.{arith}
 use lib.ListN.{length, drop}
 use Rattle.command.specs.Diagnostic.{all_channels}
-use Rattle.command.proofs.Channels.{another_channel_stands, channels_go_on, channels_end}
 use Rattle.command.proofs.diagnostic.are_channels.Given as goal
 
 abbrev pub invariant-loop-i : goal.invariant-loop-i

@@ -4,7 +4,6 @@ use native.Mathlib.Omega.{arith}
 use Rattle.carrying.proofs.Writing.{it_is_done, it_is_refused}
 use Rattle.command.proofs.Ways.{no_channels, channels_without_room, channels_are_shown, another_channel}
 use Rattle.command.proofs.Channels.{length_of_shown_channels}
-use borrow.Author.Rules.{rules}
 use Rattle.command.proofs.diagnostic.diagnostic.Goals as goal
 
 pub returns-then-count-eq0 : goal.returns-then-count-eq0

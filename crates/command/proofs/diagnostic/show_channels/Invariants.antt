@@ -1,14 +1,11 @@
 -- `command::diagnostic::show_channels` meets its contract. The invariant: of the whole reply so much is written, five bytes for
 -- each channel passed. Assumes nothing.
-use Rattle.carrying.proofs.Writing.{more_of_it, end_of_it}
-use mathlib.Core.Path.{◌≡◌, refl}
+use mathlib.Core.Path.{◌≡◌}
 use mathlib.Core.Bool.{true}
 use Prim.Native.Nat.{◌≤◌, ◌-◌, ◌*◌}
-use native.Mathlib.Omega.{arith}
 use lib.ListN.{length, drop}
 use Rattle.command.specs.Diagnostic.{all_channels, channels_shown}
-use Rattle.carrying.proofs.Writing.{Written, nothing_written}
-use Rattle.command.proofs.Channels.{a_channel_stands, shown_channels_turn, shown_channels_end}
+use Rattle.carrying.proofs.Writing.{Written}
 use Rattle.command.proofs.diagnostic.show_channels.Given as goal
 
 abbrev pub invariant-loop-i : goal.invariant-loop-i

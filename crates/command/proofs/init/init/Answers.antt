@@ -3,12 +3,10 @@ use Rattle.memory.specs.Bytes.{begun}
 use mathlib.Core.Path.{refl, ap, ◌∙◌, sym}
 use mathlib.Core.Bool.{true}
 use native.Mathlib.Omega.{arith}
-use Rattle.carrying.specs.declared.Mode.TheVariants.{Bootloader, Application}
 use Rattle.carrying.specs.Held.{standing}
 use Rattle.carrying.proofs.Writing.{it_is_done, is_done_storing, it_is_refused, one_write}
-use Rattle.command.specs.Init.{application_start, lock_order, locked_from}
+use Rattle.command.specs.Init.{application_start, lock_order}
 use Rattle.command.proofs.Ways.{init_resets, init_starts, init_locks, init_refuses, four_to_order}
-use borrow.Author.Rules.{rules}
 use Rattle.command.proofs.init.init.Goals as goal
 
 pub returns-then-field-eq0 : goal.returns-then-field-eq0

@@ -2,7 +2,6 @@
 use mathlib.Core.Path.{ap, ◌∙◌}
 use lib.Dec.{eqb}
 use Rattle.command.proofs.Ways.{orders_not_with, orders_with_four}
-use borrow.Author.Rules.{rules}
 use Rattle.command.proofs.init.is_order.Goals as goal
 
 pub returns-then-field-ne4 : goal.returns-then-field-ne4

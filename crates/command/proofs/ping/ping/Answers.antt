@@ -2,7 +2,6 @@
 use mathlib.Core.Path.{refl, ◌∙◌}
 use Rattle.command.specs.Ping.{ping_text, ping_of}
 use Rattle.carrying.proofs.Writing.{one_write, it_is_done}
-use borrow.Author.Rules.{rules}
 use Rattle.command.proofs.ping.ping.Goals as goal
 
 pub returns : goal.returns

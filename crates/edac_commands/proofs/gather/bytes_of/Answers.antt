@@ -1,5 +1,4 @@
 -- `edac_commands::gather::bytes_of` meets its contract: it has the bytes of the range that are there. Assumes nothing.
-use borrow.Author.Rules.{rules}
 use Rattle.edac_commands.proofs.Parts.{bytes_there}
 use Rattle.edac_commands.proofs.gather.bytes_of.Goals as goal
 

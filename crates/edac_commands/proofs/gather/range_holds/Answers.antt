@@ -1,6 +1,5 @@
 -- `edac_commands::gather::range_holds` meets its contract, by the test of the count and that of the range. Assumes nothing.
 use borrow.Author.Tests.{eq-eqb, ne_eqb}
-use borrow.Author.Rules.{rules}
 use Rattle.edac_commands.proofs.gather.range_holds.Goals as goal
 
 pub returns-then-count-eq0 : goal.returns-then-count-eq0

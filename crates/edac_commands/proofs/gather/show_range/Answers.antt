@@ -4,7 +4,6 @@ use native.Mathlib.Omega.{arith}
 use lib.ListN.{length, drop}
 use Rattle.carrying.proofs.Room.{part}
 use Rattle.carrying.proofs.Writing.{shown_range}
-use borrow.Author.Rules.{rules}
 use Rattle.edac_commands.proofs.gather.show_range.Goals as goal
 
 pub put-requires-2 : goal.put-requires-2

@@ -1,13 +1,13 @@
 -- `edac_commands::gather::show_ranges` meets its contract. The invariant: of the whole reply so much is written. Assumes nothing.
-use mathlib.Core.Path.{◌≡◌, refl, sym, ap}
-use Prim.Native.Nat.{◌+◌, ◌-◌, ◌≤◌}
+use mathlib.Core.Path.{refl, sym, ap}
+use Prim.Native.Nat.{◌+◌}
 use native.Mathlib.Omega.{arith}
-use lib.ListN.{length, drop}
+use lib.ListN.{drop}
 use Rattle.field.specs.Fields.{word16_at}
 use Rattle.field.proofs.Lists.{list_ends}
 use Rattle.field.proofs.Places.{one_stands_here}
-use Rattle.edac_commands.specs.Gather.{ranges, ranges_width, ranges_shown}
-use Rattle.carrying.proofs.Writing.{Written, nothing_written, more_of_it, end_of_it, size_of_it}
+use Rattle.edac_commands.specs.Gather.{ranges_shown}
+use Rattle.carrying.proofs.Writing.{nothing_written, more_of_it, end_of_it, size_of_it}
 use Rattle.edac_commands.proofs.Lists.{the_list_is_cut, ranges_width_turn, ranges_shown_turn}
 use Rattle.edac_commands.proofs.Room.{head_then_bytes}
 use Rattle.edac_commands.proofs.gather.show_ranges.Goals as goal

@@ -1,7 +1,6 @@
 -- `edac_commands::read_edac::read_edac` meets its contract: the two forms by their lengths. Assumes nothing.
 use Rattle.carrying.proofs.Writing.{it_is_refused, is_the_same}
 use Rattle.edac_commands.proofs.Ways.{edac_read_short, edac_read_long, edac_read_neither}
-use borrow.Author.Rules.{rules}
 use Rattle.edac_commands.proofs.read_edac.read_edac.Goals as goal
 
 pub returns-then-field-eq3 : goal.returns-then-field-eq3

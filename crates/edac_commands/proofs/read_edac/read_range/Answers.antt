@@ -3,7 +3,6 @@ use mathlib.Core.Path.{sym, ◌∙◌}
 use native.Mathlib.Omega.{arith}
 use Rattle.carrying.proofs.Writing.{it_is_done, it_is_refused, address_then_bytes, length_of_address_then_bytes}
 use Rattle.edac_commands.proofs.Ways.{edac_read_of_none, edac_read_without_room, edac_read_inside, edac_read_outside, it_is_inside_edac}
-use borrow.Author.Rules.{rules}
 use Rattle.edac_commands.proofs.read_edac.read_range.Goals as goal
 
 pub returns-then-size-eq0 : goal.returns-then-size-eq0

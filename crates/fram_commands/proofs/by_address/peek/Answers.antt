@@ -1,5 +1,4 @@
 -- `fram_commands::by_address::peek` meets its contract: the command on the FRAM that its address names. Assumes nothing.
-use borrow.Author.Rules.{rules}
 use mathlib.Core.Path.{sym, ◌∙◌}
 use Rattle.carrying.proofs.Writing.{is_the_same}
 use Rattle.fram_commands.proofs.Choosing.{names_bootloader, names_user, a_peek_where_it_is_named}

@@ -1,5 +1,4 @@
 -- `fram_commands::by_address::poke` meets its contract: the command on the FRAM that its address names. Assumes nothing.
-use borrow.Author.Rules.{rules}
 use mathlib.Core.Path.{sym, ◌∙◌}
 use mathlib.Core.Bool.{false}
 use Rattle.blocks.specs.Fram.{kept}

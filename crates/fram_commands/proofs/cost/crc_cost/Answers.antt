@@ -1,7 +1,6 @@
 -- `fram_commands::cost::crc_cost` meets its contract, by what the command came to. Assumes nothing.
 use mathlib.Core.Path.{sym, ap, ◌∙◌}
 use Rattle.fram_commands.specs.Cost.{crc_cost}
-use borrow.Author.Rules.{rules}
 use Rattle.fram_commands.proofs.cost.crc_cost.Goals as goal
 
 pub returns-in-Done : goal.returns-in-Done

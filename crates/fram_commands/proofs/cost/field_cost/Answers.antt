@@ -3,7 +3,6 @@ use Prim.Native.Nat.{◌+◌}
 use native.Mathlib.Omega.{arith}
 use Rattle.blocks.proofs.Counting.{no_range_costs_more_than_by_its_size}
 use Rattle.fram_commands.proofs.Costs.{the_cost_by_addresses}
-use borrow.Author.Rules.{rules}
 use Rattle.fram_commands.proofs.cost.field_cost.Goals as goal
 
 pub overflow_cast-result : goal.overflow_cast-result

@@ -1,7 +1,6 @@
 -- `fram_commands::peek::peek` meets its contract: the two forms by their lengths. Assumes nothing.
 use Rattle.carrying.proofs.Writing.{it_is_refused, is_the_same}
 use Rattle.fram_commands.proofs.Ways.{peek_short, peek_long, peek_neither}
-use borrow.Author.Rules.{rules}
 use Rattle.fram_commands.proofs.peek.peek.Goals as goal
 
 pub returns-then-field-eq5 : goal.returns-then-field-eq5

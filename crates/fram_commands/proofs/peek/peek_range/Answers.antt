@@ -6,7 +6,6 @@ use native.Mathlib.Omega.{arith}
 use Rattle.blocks.specs.Fram.{place_of}
 use Rattle.fram_commands.specs.Windows.{over_border}
 use Rattle.carrying.proofs.Writing.{it_is_done, it_is_refused, is_unfitted, address_then_bytes, length_of_address_then_bytes}
-use borrow.Author.Rules.{rules}
 use Rattle.fram_commands.proofs.peek.peek_range.Goals as goal
 
 pub returns-then-count-eq0 : goal.returns-then-count-eq0

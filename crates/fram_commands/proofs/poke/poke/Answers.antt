@@ -10,7 +10,6 @@ use Rattle.blocks.specs.Fram.{place_of, kept, store_of}
 use Rattle.fram_commands.specs.Windows.{over_border}
 use Rattle.carrying.proofs.Writing.{it_is_refused, is_unfitted, one_write}
 use Rattle.fram_commands.proofs.Ways.{a_place_lies_inside, poke_too_short, poke_without_room, poke_over_the_border, poke_outside, poke_inside}
-use borrow.Author.Rules.{rules}
 use Rattle.fram_commands.proofs.poke.poke.Goals as goal
 
 pub returns-then-size-lt5 : goal.returns-then-size-lt5

@@ -1,5 +1,4 @@
 -- `fram_commands::poke::store_unless` meets its contract, by its one test. Assumes nothing.
-use borrow.Author.Rules.{rules}
 use Rattle.fram_commands.proofs.poke.store_unless.Goals as goal
 
 pub returns-then-locked : goal.returns-then-locked

@@ -10,7 +10,6 @@ use Rattle.fram_commands.specs.Windows.{over_border}
 use Rattle.fram_commands.specs.Crc.{range_size}
 use Rattle.carrying.proofs.Writing.{it_is_done, it_is_refused, is_unfitted}
 use Rattle.fram_commands.proofs.Ways.{a_place_lies_inside, crc_of_another_length, crc_backwards, crc_over_the_border, crc_outside, crc_inside}
-use borrow.Author.Rules.{rules}
 use Rattle.fram_commands.proofs.range_crc.range_crc.Goals as goal
 
 pub returns-then-field-ne8 : goal.returns-then-field-ne8

@@ -2,7 +2,6 @@
 use mathlib.Core.Path.{sym, ap, ◌∙◌}
 use Rattle.fram_commands.specs.Windows.{first_of}
 use Rattle.fram_commands.proofs.Choosing.{names_bootloader, names_user}
-use borrow.Author.Rules.{rules}
 use Rattle.fram_commands.proofs.windows.first_of.Goals as goal
 
 pub returns-then-is_bootloaders : goal.returns-then-is_bootloaders

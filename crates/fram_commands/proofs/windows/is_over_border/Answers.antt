@@ -2,7 +2,6 @@
 use mathlib.Core.Path.{sym}
 use native.Mathlib.Omega.{arith}
 use Rattle.fram_commands.proofs.Borders.{starts_before_both, starts_in_the_second, ends_in_the_first, ends_past_the_first}
-use borrow.Author.Rules.{rules}
 use Rattle.fram_commands.proofs.windows.is_over_border.Goals as goal
 
 pub returns-then-address-lt-FIRST_OF_BOOTLOADER : goal.returns-then-address-lt-FIRST_OF_BOOTLOADER

@@ -1,7 +1,6 @@
 -- `judging::fitting::all_sums_fit` meets its contract: the sums of both FRAMs by the test of one. Assumes nothing.
 use mathlib.Core.Path.{sym, ◌∙◌}
 use Rattle.judging.proofs.Refusing.{asked_of_both, not_of_the_first}
-use borrow.Author.Rules.{rules}
 use Rattle.judging.proofs.fitting.all_sums_fit.Goals as goal
 
 pub returns-then-sums_fit : goal.returns-then-sums_fit

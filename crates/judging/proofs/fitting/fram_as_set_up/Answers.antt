@@ -1,7 +1,6 @@
 -- `judging::fitting::fram_as_set_up` meets its contract, by that of `fram_fits`. Assumes nothing.
 use mathlib.Core.Path.{sym, ◌∙◌}
 use Rattle.judging.proofs.Refusing.{not_as_set_up, as_set_up}
-use borrow.Author.Rules.{rules}
 use Rattle.judging.proofs.fitting.fram_as_set_up.Goals as goal
 
 pub returns-then-fram_fits : goal.returns-then-fram_fits

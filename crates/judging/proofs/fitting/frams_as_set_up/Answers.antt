@@ -1,7 +1,6 @@
 -- `judging::fitting::frams_as_set_up` meets its contract: both FRAMs by the test of one. Assumes nothing.
 use mathlib.Core.Path.{sym, ◌∙◌}
 use Rattle.judging.proofs.Refusing.{asked_of_both, not_of_the_first}
-use borrow.Author.Rules.{rules}
 use Rattle.judging.proofs.fitting.frams_as_set_up.Goals as goal
 
 pub returns-then-fram_as_set_up : goal.returns-then-fram_as_set_up

@@ -1,8 +1,6 @@
 -- `judging::fitting::lengths_fit` meets its contract, by one law for each refusal. Assumes nothing.
 use mathlib.Core.Path.{sym, ◌∙◌}
-use borrow.Author.Tests.{not-true, not-false}
 use Rattle.judging.proofs.Refusing.{refused_20, refused_21, refused_22, refused_23, refused_24, refused_25_on_0, refused_25_on_1, not_refused}
-use borrow.Author.Rules.{rules}
 use Rattle.judging.proofs.fitting.lengths_fit.Goals as goal
 
 pub returns-then-strap-gt-LAST_STRAP : goal.returns-then-strap-gt-LAST_STRAP

@@ -1,6 +1,5 @@
 -- `judging::fitting::limit_fits` meets its contract, by its test. Assumes nothing.
 use mathlib.Core.Path.{sym, ◌∙◌}
-use borrow.Author.Rules.{rules}
 use Rattle.judging.proofs.fitting.limit_fits.Goals as goal
 
 pub returns-then-is_limit : goal.returns-then-is_limit

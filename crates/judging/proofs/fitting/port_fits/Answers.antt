@@ -1,6 +1,5 @@
 -- `judging::fitting::port_fits` meets its contract, by its two tests. Assumes nothing.
 use borrow.Author.Tests.{le-leb, lt-leb}
-use borrow.Author.Rules.{rules}
 use Rattle.judging.proofs.fitting.port_fits.Goals as goal
 
 pub returns-then-port-gt-LAST_PORT : goal.returns-then-port-gt-LAST_PORT

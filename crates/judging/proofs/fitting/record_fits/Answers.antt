@@ -3,7 +3,6 @@ use mathlib.Core.Path.{subst}
 use Prim.Native.Nat.{ℕ, ◌≤◌, ◌<◌}
 use borrow.Author.Tests.{le-leb, lt-leb}
 use Rattle.judging.specs.Fitting.{largest_count}
-use borrow.Author.Rules.{rules}
 use Rattle.judging.proofs.fitting.record_fits.Goals as goal
 
 pub returns-then-count_of-gt-LARGEST_COUNT : goal.returns-then-count_of-gt-LARGEST_COUNT

@@ -1,7 +1,6 @@
 -- `judging::fitting::set_up_fit` meets its contract, by those of the three tests. Assumes nothing.
 use mathlib.Core.Path.{ap₂, ◌∙◌}
 use Rattle.judging.specs.Fitting.{lengths_fit, set_up_fit}
-use borrow.Author.Rules.{rules}
 use Rattle.judging.proofs.fitting.set_up_fit.Goals as goal
 
 pub returns : goal.returns

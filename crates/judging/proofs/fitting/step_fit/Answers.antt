@@ -3,7 +3,6 @@ use mathlib.Core.Path.{sym, ap, ◌∙◌}
 use Rattle.judging.specs.declared.fitting.Fit.TheVariants.{Fits}
 use Rattle.judging.specs.Fitting.{frams_as_set_up, lengths_fit, step_fit}
 use Rattle.judging.proofs.Serving.{refused_all_the_same, and_then}
-use borrow.Author.Rules.{rules}
 use Rattle.judging.proofs.fitting.step_fit.Goals as goal
 
 pub returns-in-Unfit : goal.returns-in-Unfit
