@@ -3,6 +3,7 @@
 #![tactic(auto)]
 
 use crc::{Joined, Part};
+use std::fmt::Display;
 use std::io;
 
 // One bit of the fragment of ICD 10.8, as it stands there.
@@ -48,10 +49,19 @@ fn verdict(agrees: bool) -> &'static str {
     if agrees { "ok" } else { "BAD" }
 }
 
+fn numbers(
+    rt: &impl Print,
+    name: impl Display + Drop,
+    came: u64,
+    due: u64,
+    width: usize,
+) -> io::Result<()> {
+    let agrees = verdict(came == due);
+    println!(rt; "{name} {came:0width$x} {due:0width$x} {agrees}")
+}
+
 fn vector(rt: &impl Print, name: &str, bytes: &[u8], due: u16) -> io::Result<()> {
-    let came = crc::sum(bytes);
-    let said = verdict(came == due);
-    println!(rt; "{name} {came:04x} {due:04x} {said}")
+    numbers(rt, name, crc::sum(bytes) as u64, due as u64, 4)
 }
 
 // The answer, the sum and the length as one number, so that one line compares all three.
@@ -68,17 +78,19 @@ fn joined(a: Part, b: Part) -> u64 {
 }
 
 fn join_vector(rt: &impl Print, name: &str, a: Part, b: Part, due: u64) -> io::Result<()> {
-    let came = joined(a, b);
-    let said = verdict(came == due);
-    println!(rt; "{name} {came:016x} {due:016x} {said}")
+    numbers(rt, name, joined(a, b), due, 16)
 }
 
 fn long(rt: &impl Print, bytes: &[u8]) -> io::Result<()> {
     let length = bytes.len();
-    let came = crc::sum(bytes);
-    let due = bit_by_bit(bytes);
-    let said = verdict(came == due);
-    println!(rt; "{length} patterned bytes {came:04x} {due:04x} {said}")
+    let name = format_args!("{length} patterned bytes");
+    numbers(
+        rt,
+        name,
+        crc::sum(bytes) as u64,
+        bit_by_bit(bytes) as u64,
+        4,
+    )
 }
 
 fn sums(rt: &impl Print) -> io::Result<()> {
@@ -89,8 +101,7 @@ fn sums(rt: &impl Print) -> io::Result<()> {
     vector(rt, "P4", b"\x00", 0x0f87)?;
     vector(rt, "P5", b"\x41\x11\x80", 0x6dd8)?;
     let came = crc::sum_from(crc::sum(b"1234"), b"56789");
-    let said = verdict(came == 0x6f91);
-    println!(rt; "1234 then 56789 {came:04x} 6f91 {said}")
+    numbers(rt, "1234 then 56789", came as u64, 0x6f91, 4)
 }
 
 fn neutral() -> Part {
