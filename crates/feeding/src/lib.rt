@@ -8,7 +8,7 @@ use unit::{Stepped, Unit};
 
 // The unit after a call, the number of the answer, what a command cost, and how many bytes of a reply are to be sent, and on which
 // port.
-#[derive(Drop)]
+#[derive(Clone, Copy)]
 pub struct Fed {
     pub unit: Unit,
     pub number: u8,

@@ -5,9 +5,10 @@
 
 ghost use Rattle.std.specs.Prelude.{◌<◌};
 
-use libc::{STDIN_FILENO, STDOUT_FILENO};
 use line::framing::FEND;
 use ports::{Side, sent_by};
+use std::io::{Error, ErrorKind, Read};
+use std_io::io::last_error;
 use words::report;
 
 pub type Buffer = [u8; 131072];
@@ -21,7 +22,7 @@ const LAST: usize = 129_004;
 // written, and for which port, the file of port 1, or 0 where there is none, how many bytes were written on port 0 and how many
 // of these were FEND, how many replies left on port 1, and 1 while input and output are still there, then 0.
 // Every field has 64 bits, so that a copy has no gaps: on the way through a loop those cost more than all the rest.
-#[derive(Drop)]
+#[derive(Clone, Copy)]
 pub struct Flow {
     pub byte: u64,
     pub next: usize,
@@ -59,26 +60,28 @@ fn closed(flow: Flow) -> Flow {
 }
 
 // After a read or a write that failed: one that a signal broke off is tried again, any other is said and ends the flow.
-fn failed(flow: Flow, is_input: bool) -> Flow {
-    let error = os::errno();
-    if error == libc::EINTR {
+fn failed(rt: &impl Eprint, flow: Flow, is_input: bool, error: Error) -> Flow {
+    if error.kind() == ErrorKind::Interrupted {
         return flow;
     }
     if is_input {
-        report::read_failed(error);
+        report::read_failed(rt, error);
     } else {
-        report::write_failed(flow.port, error);
+        report::write_failed(rt, flow.port, error);
     }
+    closed(flow)
+}
+
+fn takes_nothing(rt: &impl Eprint, flow: Flow) -> Flow {
+    report::takes_nothing(rt, flow.port);
     closed(flow)
 }
 
 // How many bytes are FEND.
 fn fends(bytes: &[u8]) -> u64 {
     let mut count: u64 = 0;
-    let mut i = 0;
-    while i < bytes.len() {
-        count = std::num::wrapping_add_u64(count, (bytes[i] == FEND) as u64);
-        i += 1;
+    for byte in bytes {
+        count = count.wrapping_add((*byte == FEND) as u64);
     }
     count
 }
@@ -86,10 +89,10 @@ fn fends(bytes: &[u8]) -> u64 {
 // What is left to write after a write took some bytes.
 fn written(flow: Flow, taken: &[u8]) -> Flow {
     let mut now = flow;
-    now.from = std::num::wrapping_add_usize(now.from, taken.len());
+    now.from = now.from.wrapping_add(taken.len());
     if now.port == 0 {
-        now.bytes = std::num::wrapping_add_u64(now.bytes, taken.len() as u64);
-        now.fends = std::num::wrapping_add_u64(now.fends, fends(taken));
+        now.bytes = now.bytes.wrapping_add(taken.len() as u64);
+        now.fends = now.fends.wrapping_add(fends(taken));
     }
     if now.from >= now.to {
         now.from = HALF;
@@ -98,16 +101,32 @@ fn written(flow: Flow, taken: &[u8]) -> Flow {
     now
 }
 
-// The file to which what waits is written.
-fn file_of(flow: Flow) -> i32 {
-    if flow.port == 0 {
-        return STDOUT_FILENO;
+// Writes once on standard output.
+fn write_output(rt: &(impl Print + Eprint), flow: Flow, waiting: &[u8]) -> Flow {
+    match rt.write_some(waiting) {
+        Ok(0) => takes_nothing(rt, flow),
+        Ok(n) => written(flow, &waiting[..n]),
+        Err(error) => failed(rt, flow, false, error),
     }
-    (flow.file1 % 1_024) as i32
 }
 
-// Writes once of what waits.
-fn write_once(flow: Flow, buffer: &[u8]) -> Flow {
+// Writes to the file of port 1. A file that is known by its number alone is written by a call that writes all, or says that it did
+// not, and leaves the reason to be asked for. How much it wrote before is then not known, so it is not tried again.
+fn write_file(rt: &impl Eprint, flow: Flow, waiting: &[u8]) -> Flow {
+    let file = (flow.file1 % 1_024) as i32;
+    if io::write_all(file, waiting) {
+        return written(flow, waiting);
+    }
+    let error = last_error();
+    if error.raw_os_error() == Some(0) {
+        return takes_nothing(rt, flow);
+    }
+    report::write_failed(rt, flow.port, error);
+    closed(flow)
+}
+
+// Writes some of what waits.
+fn write_once(rt: &(impl Print + Eprint), flow: Flow, buffer: &[u8]) -> Flow {
     let from = flow.from;
     let to = flow.to;
     if to > buffer.len() {
@@ -117,32 +136,26 @@ fn write_once(flow: Flow, buffer: &[u8]) -> Flow {
         return closed(flow);
     }
     let waiting = &buffer[from..to];
-    let got = libc::write(file_of(flow), waiting);
-    if got < 0 {
-        return failed(flow, false);
+    if flow.port == 0 {
+        write_output(rt, flow, waiting)
+    } else {
+        write_file(rt, flow, waiting)
     }
-    let n = io::count(got, waiting);
-    if n == 0 {
-        report::takes_nothing(flow.port);
-        return closed(flow);
-    }
-    written(flow, &waiting[..n])
 }
 
 // Reads once.
-fn read_once(flow: Flow, buffer: &mut [u8]) -> Flow {
+fn read_once(rt: &impl Eprint, input: &mut impl Read, flow: Flow, buffer: &mut [u8]) -> Flow {
     let half = buffer.len() / 2;
-    let got = libc::read(STDIN_FILENO, &mut buffer[0..half]);
-    if got < 0 {
-        return failed(flow, true);
+    match input.read(&mut buffer[0..half]) {
+        Ok(0) => closed(flow),
+        Ok(n) => {
+            let mut now = flow;
+            now.next = 0;
+            now.end = n;
+            now
+        }
+        Err(error) => failed(rt, flow, true, error),
     }
-    if got == 0 {
-        return closed(flow);
-    }
-    let mut now = flow;
-    now.next = 0;
-    now.end = io::count(got, buffer);
-    now
 }
 
 // Whether the bytes of the last read are used up, or the next reply might find no room.
@@ -151,11 +164,16 @@ fn is_wanting(flow: Flow) -> bool {
 }
 
 // One call of the system: a write where bytes wait, else a read.
-fn moved(flow: Flow, buffer: &mut Buffer) -> Flow {
+fn moved(
+    rt: &(impl Print + Eprint),
+    input: &mut impl Read,
+    flow: Flow,
+    buffer: &mut Buffer,
+) -> Flow {
     if flow.from < flow.to {
-        return write_once(flow, buffer);
+        return write_once(rt, flow, buffer);
     }
-    read_once(flow, buffer)
+    read_once(rt, input, flow, buffer)
 }
 
 fn wide(byte: u8) -> u64 {
@@ -185,12 +203,13 @@ fn is_held_up(flow: Flow, port: u64) -> bool {
 }
 
 // The flow with nothing waiting but for this port: what waits for the other is written.
-fn turned(flow: Flow, port: u64, buffer: &[u8]) -> Flow {
+fn turned(rt: &(impl Print + Eprint), flow: Flow, port: u64, buffer: &[u8]) -> Flow {
     let mut now = flow;
-    let mut turns = u64::MAX;
-    while turns > 0 && is_held_up(now, port) {
-        now = write_once(now, buffer);
-        turns -= 1;
+    for _ in 0..u64::MAX {
+        if !is_held_up(now, port) {
+            break;
+        }
+        now = write_once(rt, now, buffer);
     }
     now.port = port;
     now
@@ -212,18 +231,19 @@ fn queued(flow: Flow, reply: &[u8], buffer: &mut [u8]) -> Flow {
 }
 
 // A reply on port 1: put behind what waits for its file, or told where there is none.
-fn left_on_port1(flow: Flow, reply: &[u8], buffer: &mut [u8]) -> Flow {
+fn left_on_port1(rt: &(impl Print + Eprint), flow: Flow, reply: &[u8], buffer: &mut [u8]) -> Flow {
     let mut now = flow;
-    now.left1 = std::num::wrapping_add_u64(now.left1, 1);
+    now.left1 = now.left1.wrapping_add(1);
     if now.file1 == 0 {
-        report::left_on_port1(reply.len() as u64);
+        report::left_on_port1(rt, reply.len() as u64);
         return now;
     }
-    queued(turned(now, 1, buffer), reply, buffer)
+    queued(turned(rt, now, 1, buffer), reply, buffer)
 }
 
 // A reply of so many bytes on its way, from the reply buffer of its port.
 fn sent_off<'a>(
+    rt: &(impl Print + Eprint),
     flow: Flow,
     sent: usize,
     side: Side,
@@ -236,25 +256,33 @@ fn sent_off<'a>(
     }
     let reply = sent_by(side, sent, reply0, reply1);
     match side {
-        Side::Zero => queued(turned(flow, 0, buffer), reply, buffer),
-        Side::One => left_on_port1(flow, reply, buffer),
+        Side::Zero => queued(turned(rt, flow, 0, buffer), reply, buffer),
+        Side::One => left_on_port1(rt, flow, reply, buffer),
     }
 }
 
 // The flow with its next byte, or at its end. Where the bytes of the last read are used up, what waits is written before the
 // next read.
-fn filled(flow: Flow, buffer: &mut Buffer) -> Flow {
+fn filled(
+    rt: &(impl Print + Eprint),
+    input: &mut impl Read,
+    flow: Flow,
+    buffer: &mut Buffer,
+) -> Flow {
     let mut now = flow;
-    let mut turns = u64::MAX;
-    while turns > 0 && is_wanting(now) {
-        now = moved(now, buffer);
-        turns -= 1;
+    for _ in 0..u64::MAX {
+        if !is_wanting(now) {
+            break;
+        }
+        now = moved(rt, input, now, buffer);
     }
     taken(now, buffer)
 }
 
 // The flow with its next byte, after a reply of so many bytes left on a port. The reply buffers of both are lent.
 pub fn answered<'a>(
+    rt: &(impl Print + Eprint),
+    input: &mut impl Read,
     flow: Flow,
     sent: usize,
     side: Side,
@@ -262,7 +290,8 @@ pub fn answered<'a>(
     reply1: &'a [u8; 2068],
     buffer: &mut Buffer,
 ) -> Flow {
-    filled(sent_off(flow, sent, side, reply0, reply1, buffer), buffer)
+    let now = sent_off(rt, flow, sent, side, reply0, reply1, buffer);
+    filled(rt, input, now, buffer)
 }
 
 // How many turns are left: none once input or output is at its end. A proved loop has to end, and nothing says that the input

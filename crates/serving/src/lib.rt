@@ -5,11 +5,14 @@ ghost use Rattle.std.specs.Prelude.{◌≤◌};
 
 use feeding::{begun, feed};
 use port::left;
+use std::io::Read;
 use words::report;
 use words::report::{count, larger};
 
 // Sets a unit up and feeds it byte by byte to the end of the input.
 fn run(
+    rt: &(impl Print + Eprint),
+    input: &mut impl Read,
     strap: u8,
     limit: usize,
     locked: bool,
@@ -47,7 +50,16 @@ fn run(
     let mut turns = u64::MAX;
     loop {
         let side = fed.port;
-        flow = port::answered(flow, fed.sent, side, &reply0, &reply1, &mut buffer);
+        flow = port::answered(
+            rt,
+            input,
+            flow,
+            fed.sent,
+            side,
+            &reply0,
+            &reply1,
+            &mut buffer,
+        );
         turns = left(turns, flow.open);
         if turns == 0 {
             break;
@@ -72,6 +84,7 @@ fn run(
     }
     let unit = fed.unit;
     report::ended(
+        rt,
         &tally,
         diagnostics,
         unit.locked,
@@ -83,7 +96,16 @@ fn run(
 }
 
 // A wheel with fresh memory.
-pub fn serve(strap: u8, size: usize, limit: usize, bootloader_size: usize, locked: bool, file1: u64)
+pub fn serve(
+    rt: &(impl Print + Eprint),
+    input: &mut impl Read,
+    strap: u8,
+    size: usize,
+    limit: usize,
+    bootloader_size: usize,
+    locked: bool,
+    file1: u64,
+)
     requires { (size ≤ 262144) × (bootloader_size ≤ 262144) }
 {
     let mut edac = [0u8; 1536];
@@ -96,6 +118,8 @@ pub fn serve(strap: u8, size: usize, limit: usize, bootloader_size: usize, locke
     let bootloader_blocks = bootloader_size / 256;
     let blocks = size / 256;
     run(
+        rt,
+        input,
         strap,
         limit,
         locked,

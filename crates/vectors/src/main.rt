@@ -3,6 +3,8 @@
 #![tactic(auto)]
 
 use crc::{Joined, Part};
+use std::fmt::Display;
+use std::io;
 
 // One bit of the fragment of ICD 10.8, as it stands there.
 fn one_bit(sum: u16, byte: u8) -> u16 {
@@ -17,21 +19,17 @@ fn one_bit(sum: u16, byte: u8) -> u16 {
 fn one_byte(sum: u16, byte: u8) -> u16 {
     let mut fed = sum;
     let mut rest = byte;
-    let mut left: usize = 8;
-    while 0 < left {
+    for _ in 0..8 {
         fed = one_bit(fed, rest);
         rest = rest / 2;
-        left -= 1;
     }
     fed
 }
 
 fn bit_by_bit(bytes: &[u8]) -> u16 {
     let mut sum: u16 = 0xffff;
-    let mut i = 0;
-    while i < bytes.len() {
-        sum = one_byte(sum, bytes[i]);
-        i += 1;
+    for byte in bytes {
+        sum = one_byte(sum, *byte);
     }
     sum
 }
@@ -42,32 +40,28 @@ fn pattern(place: usize) -> u8 {
 }
 
 fn fill(bytes: &mut [u8]) {
-    let mut i = 0;
-    while i < bytes.len() {
+    for i in 0..bytes.len() {
         bytes[i] = pattern(i);
-        i += 1;
     }
 }
 
-fn verdict(agrees: bool) {
-    if agrees {
-        io::write_all(1, b" ok\n");
-    } else {
-        io::write_all(1, b" BAD\n");
-    }
+fn verdict(agrees: bool) -> &'static str {
+    if agrees { "ok" } else { "BAD" }
 }
 
-fn numbers(name: &[u8], came: u64, due: u64, width: usize) {
-    io::write_all(1, name);
-    io::write_all(1, b" ");
-    io::print_hex(1, came, width);
-    io::write_all(1, b" ");
-    io::print_hex(1, due, width);
-    verdict(came == due);
+fn numbers(
+    rt: &impl Print,
+    name: impl Display + Drop,
+    came: u64,
+    due: u64,
+    width: usize,
+) -> io::Result<()> {
+    let agrees = verdict(came == due);
+    println!(rt; "{name} {came:0width$x} {due:0width$x} {agrees}")
 }
 
-fn vector(name: &[u8], bytes: &[u8], due: u16) {
-    numbers(name, crc::sum(bytes) as u64, due as u64, 4);
+fn vector(rt: &impl Print, name: &str, bytes: &[u8], due: u16) -> io::Result<()> {
+    numbers(rt, name, crc::sum(bytes) as u64, due as u64, 4)
 }
 
 // The answer, the sum and the length as one number, so that one line compares all three.
@@ -83,73 +77,80 @@ fn joined(a: Part, b: Part) -> u64 {
     }
 }
 
-fn join_vector(name: &[u8], a: Part, b: Part, due: u64) {
-    numbers(name, joined(a, b), due, 16);
+fn join_vector(rt: &impl Print, name: &str, a: Part, b: Part, due: u64) -> io::Result<()> {
+    numbers(rt, name, joined(a, b), due, 16)
 }
 
-fn long(bytes: &[u8]) {
-    io::print_decimal(1, bytes.len() as u64);
+fn long(rt: &impl Print, bytes: &[u8]) -> io::Result<()> {
+    let length = bytes.len();
+    let name = format_args!("{length} patterned bytes");
     numbers(
-        b" patterned bytes",
+        rt,
+        name,
         crc::sum(bytes) as u64,
         bit_by_bit(bytes) as u64,
         4,
-    );
+    )
 }
 
-fn sums() {
-    vector(b"MCRF4XX 123456789", b"123456789", 0x6f91);
-    vector(b"P1", b"", 0xffff);
-    vector(b"P2", b"\xff", 0x00ff);
-    vector(b"P3", b"\xff\xff", 0x0000);
-    vector(b"P4", b"\x00", 0x0f87);
-    vector(b"P5", b"\x41\x11\x80", 0x6dd8);
-    numbers(
-        b"1234 then 56789",
-        crc::sum_from(crc::sum(b"1234"), b"56789") as u64,
-        0x6f91,
-        4,
-    );
+fn sums(rt: &impl Print) -> io::Result<()> {
+    vector(rt, "MCRF4XX 123456789", b"123456789", 0x6f91)?;
+    vector(rt, "P1", b"", 0xffff)?;
+    vector(rt, "P2", b"\xff", 0x00ff)?;
+    vector(rt, "P3", b"\xff\xff", 0x0000)?;
+    vector(rt, "P4", b"\x00", 0x0f87)?;
+    vector(rt, "P5", b"\x41\x11\x80", 0x6dd8)?;
+    let came = crc::sum_from(crc::sum(b"1234"), b"56789");
+    numbers(rt, "1234 then 56789", came as u64, 0x6f91, 4)
 }
 
-fn joins() {
-    let neutral = Part {
+fn neutral() -> Part {
+    Part {
         sum: 0xffff,
         len: 0,
-    };
-    let check = Part {
-        sum: 0x6f91,
-        len: 9,
-    };
-    let ff = Part {
-        sum: 0x00ff,
-        len: 1,
-    };
-    let longest = Part {
-        sum: 0x1234,
-        len: 0xffff_ffff,
-    };
-    join_vector(b"P8", ff, ff, shown(0, 0x0000, 2));
-    join_vector(b"neutral first", neutral, check, shown(0, 0x6f91, 9));
-    join_vector(b"neutral second", check, neutral, shown(0, 0x6f91, 9));
-    join_vector(
-        b"longest and neutral",
-        longest,
-        neutral,
-        shown(0, 0x1234, 0xffff_ffff),
-    );
-    join_vector(b"longest and one byte", longest, ff, shown(36, 0, 0));
+    }
 }
 
-fn main() {
-    sums();
-    joins();
-    let mut bytes = io::large_buffer();
+fn check() -> Part {
+    Part {
+        sum: 0x6f91,
+        len: 9,
+    }
+}
+
+fn ff() -> Part {
+    Part {
+        sum: 0x00ff,
+        len: 1,
+    }
+}
+
+fn longest() -> Part {
+    Part {
+        sum: 0x1234,
+        len: 0xffff_ffff,
+    }
+}
+
+fn joins(rt: &impl Print) -> io::Result<()> {
+    let whole = shown(0, 0x6f91, 9);
+    join_vector(rt, "P8", ff(), ff(), shown(0, 0x0000, 2))?;
+    join_vector(rt, "neutral first", neutral(), check(), whole)?;
+    join_vector(rt, "neutral second", check(), neutral(), whole)?;
+    let most = shown(0, 0x1234, 0xffff_ffff);
+    join_vector(rt, "longest and neutral", longest(), neutral(), most)?;
+    join_vector(rt, "longest and one byte", longest(), ff(), shown(36, 0, 0))
+}
+
+fn main(rt: HostRuntime) -> io::Result<()> {
+    sums(&rt)?;
+    joins(&rt)?;
+    let mut bytes = [0u8; 65536];
     fill(&mut bytes);
-    long(&bytes[0..1]);
-    long(&bytes[0..255]);
-    long(&bytes[0..256]);
-    long(&bytes[0..257]);
-    long(&bytes[0..4096]);
-    long(&bytes);
+    long(&rt, &bytes[0..1])?;
+    long(&rt, &bytes[0..255])?;
+    long(&rt, &bytes[0..256])?;
+    long(&rt, &bytes[0..257])?;
+    long(&rt, &bytes[0..4096])?;
+    long(&rt, &bytes)
 }

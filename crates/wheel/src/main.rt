@@ -36,50 +36,60 @@ fn refusal(strap: u8, size: usize, limit: usize) -> u8 {
 }
 
 // A wheel with the file for port 1 that was asked for.
-fn open(strap: u8, size: usize, limit: usize, bootloader_size: usize, locked: bool)
+fn open(rt: HostRuntime, strap: u8, size: usize, limit: usize, bootloader_size: usize, locked: bool)
     requires { (size ≤ 262144) × (bootloader_size ≤ 262144) }
 {
-    let file1 = arguments::port1();
+    let file1 = arguments::port1(&rt);
     if file1 == NO_FILE {
-        report::bad_port1();
+        report::bad_port1(&rt);
         return;
     }
-    serve(strap, size, limit, bootloader_size, locked, file1);
+    let mut input = rt.stdin();
+    serve(
+        &rt,
+        &mut input,
+        strap,
+        size,
+        limit,
+        bootloader_size,
+        locked,
+        file1,
+    );
 }
 
 // A wheel with the bootloader FRAM that was asked for, where strap, size and limit will do.
-fn start(strap: u8, size: usize, limit: usize)
+fn start(rt: HostRuntime, strap: u8, size: usize, limit: usize)
     requires { size ≤ 262144 }
 {
-    let bootloader_size = arguments::bootloader();
+    let bootloader_size = arguments::bootloader(&rt);
     if refusal(strap, bootloader_size, limit) != 0 {
-        report::bad_bootloader();
+        report::bad_bootloader(&rt);
         return;
     }
-    let locking = arguments::lock();
+    let locking = arguments::lock(&rt);
     match locking {
-        Locking::Unlocked => open(strap, size, limit, bootloader_size, false),
-        Locking::Locked => open(strap, size, limit, bootloader_size, true),
-        Locking::Neither => report::bad_lock(),
+        Locking::Unlocked => open(rt, strap, size, limit, bootloader_size, false),
+        Locking::Locked => open(rt, strap, size, limit, bootloader_size, true),
+        Locking::Neither => report::bad_lock(&rt),
     }
 }
 
-fn main() {
-    if arguments::is_help() {
-        report::help();
+fn main(rt: HostRuntime) {
+    if arguments::is_help(&rt) {
+        report::help(&rt);
         return;
     }
-    if os::arg_count() > 7 {
-        report::too_many();
+    if arguments::are_too_many(&rt) {
+        report::too_many(&rt);
         return;
     }
-    let strap = arguments::strap();
-    let size = arguments::fram();
-    let limit = arguments::limit();
+    let strap = arguments::strap(&rt);
+    let size = arguments::fram(&rt);
+    let limit = arguments::limit(&rt);
     match refusal(strap, size, limit) {
-        0 => start(strap, size, limit),
-        20 => report::bad_strap(),
-        29 => report::bad_limit(),
-        _ => report::bad_fram(),
+        0 => start(rt, strap, size, limit),
+        20 => report::bad_strap(&rt),
+        29 => report::bad_limit(&rt),
+        _ => report::bad_fram(&rt),
     }
 }

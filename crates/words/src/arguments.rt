@@ -3,6 +3,9 @@
 
 ghost use Rattle.std.specs.Prelude.{◌≤◌};
 
+use std::env::FillError;
+use std::rt::Env;
+
 // What a word stands for that is no number, or a larger one than any that is asked for.
 const BAD: u64 = 0xffff_ffff;
 
@@ -10,6 +13,9 @@ const BAD: u64 = 0xffff_ffff;
 const FIRST_FILE: u64 = 3;
 
 pub const NO_FILE: u64 = 1024;
+
+// The longest argument that is read. A longer one stands for nothing.
+const LONGEST: usize = 4096;
 
 // What a digit counts, and 16 for a byte that is none.
 fn digit(byte: u8) -> u8 {
@@ -39,16 +45,14 @@ fn longer(value: u64, is_hex: bool, byte: u8) -> u64 {
     value * 10 + next
 }
 
-// The number that the digits from a place on stand for.
-fn value(text: &[u8], from: usize, is_hex: bool) -> u64 {
-    if from >= text.len() {
+// The number that some digits stand for.
+fn value(digits: &[u8], is_hex: bool) -> u64 {
+    if digits.is_empty() {
         return BAD;
     }
     let mut value: u64 = 0;
-    let mut i = from;
-    while i < text.len() {
-        value = longer(value, is_hex, text[i]);
-        i += 1;
+    for byte in digits {
+        value = longer(value, is_hex, *byte);
     }
     value
 }
@@ -57,26 +61,34 @@ fn number(text: &[u8]) -> u64 {
     if text.len() > 2 {
         if text[0] == b'0' {
             if text[1] == b'x' {
-                return value(text, 2, true);
+                return value(&text[2..], true);
             }
         }
     }
-    value(text, 0, false)
+    value(text, false)
 }
 
 // The number of one argument, or the one that is taken where there is none.
-fn argument(place: usize, otherwise: u64) -> u64 {
-    if os::arg_count() <= place {
-        return otherwise;
+fn argument(rt: &impl Env, place: usize, otherwise: u64) -> u64 {
+    let mut text = [0u8; LONGEST];
+    match rt.arg(place, &mut text) {
+        Ok(length) => number(&text[..length]),
+        Err(FillError::TooLong) => BAD,
+        Err(FillError::NotPresent) => otherwise,
     }
-    let mut text = io::buffer();
-    let length = os::arg(place, &mut text);
-    number(&text[..length])
+}
+
+fn is_missing(rt: &impl Env, place: usize) -> bool {
+    let mut text = [0u8; LONGEST];
+    match rt.arg(place, &mut text) {
+        Err(FillError::NotPresent) => true,
+        _ => false,
+    }
 }
 
 // The strap that was asked for, and 255, which no unit has, where it is no byte. Which others no unit has is for the unit to say.
-pub fn strap() -> u8 {
-    let number = argument(1, 1);
+pub fn strap(rt: &impl Env) -> u8 {
+    let number = argument(rt, 1, 1);
     if number > 255 {
         return 255;
     }
@@ -85,10 +97,10 @@ pub fn strap() -> u8 {
 
 // A size of FRAM that was asked for, and 0, which FRAM never has, where it is too large. Which others FRAM cannot have is for the
 // unit to say.
-fn size(place: usize) -> usize
+fn size(rt: &impl Env, place: usize) -> usize
     ensures { result ≤ 262144 }
 {
-    let number = argument(place, 65_536);
+    let number = argument(rt, place, 65_536);
     if number > 262_144 {
         return 0;
     }
@@ -96,29 +108,31 @@ fn size(place: usize) -> usize
 }
 
 // The size of user FRAM.
-pub fn fram() -> usize
+pub fn fram(rt: &impl Env) -> usize
     ensures { result ≤ 262144 }
 {
-    size(2)
+    size(rt, 2)
 }
 
 // The limit that was asked for: the most data bytes of a message. Which limits no unit has is for the unit to say.
-pub fn limit() -> usize {
-    argument(3, 1_028) as usize
+pub fn limit(rt: &impl Env) -> usize {
+    argument(rt, 3, 1_028) as usize
 }
 
 // The size of bootloader FRAM.
-pub fn bootloader() -> usize
+pub fn bootloader(rt: &impl Env) -> usize
     ensures { result ≤ 262144 }
 {
-    size(4)
+    size(rt, 4)
 }
 
 // Whether one argument is this word.
-fn is_word(place: usize, word: &[u8]) -> bool {
-    let mut text = io::buffer();
-    let length = os::arg(place, &mut text);
-    check::same(&text[..length], word)
+fn is_word(rt: &impl Env, place: usize, word: &[u8]) -> bool {
+    let mut text = [0u8; LONGEST];
+    match rt.arg(place, &mut text) {
+        Ok(length) => &text[..length] == word,
+        Err(_) => false,
+    }
 }
 
 // What is said of bootloader FRAM.
@@ -129,25 +143,25 @@ pub enum Locking {
     Neither,
 }
 
-pub fn lock() -> Locking {
-    if os::arg_count() <= 5 {
+pub fn lock(rt: &impl Env) -> Locking {
+    if is_missing(rt, 5) {
         return Locking::Unlocked;
     }
-    if is_word(5, b"unlocked") {
+    if is_word(rt, 5, b"unlocked") {
         return Locking::Unlocked;
     }
-    if is_word(5, b"locked") {
+    if is_word(rt, 5, b"locked") {
         return Locking::Locked;
     }
     Locking::Neither
 }
 
 // The file descriptor that was asked for, for replies on port 1; 0 where there is none, and `NO_FILE` where it can be none.
-pub fn port1() -> u64 {
-    if os::arg_count() <= 6 {
+pub fn port1(rt: &impl Env) -> u64 {
+    if is_missing(rt, 6) {
         return 0;
     }
-    let number = argument(6, 0);
+    let number = argument(rt, 6, 0);
     if number < FIRST_FILE {
         return NO_FILE;
     }
@@ -158,6 +172,11 @@ pub fn port1() -> u64 {
 }
 
 // Whether the first argument asks for help.
-pub fn is_help() -> bool {
-    is_word(1, b"--help") || is_word(1, b"-h")
+pub fn is_help(rt: &impl Env) -> bool {
+    is_word(rt, 1, b"--help") || is_word(rt, 1, b"-h")
+}
+
+// Whether there are more than six arguments.
+pub fn are_too_many(rt: &impl Env) -> bool {
+    !is_missing(rt, 7)
 }

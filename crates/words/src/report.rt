@@ -1,150 +1,132 @@
-// What is said on standard error, and the help.
-use libc::{STDERR_FILENO, STDOUT_FILENO};
+// What is said on standard error, and the help. What cannot be written there is lost: nobody is left to be told.
+use std::fmt::InlineText;
+use std::io::{Error, ErrorKind};
 
 // The diagnostic that set-up writes: it shows whether bootloader FRAM is locked.
 const FRAM_STATUS: usize = 0x06;
 
-fn said(words: &[u8]) {
-    io::write_all(STDERR_FILENO, words);
+const USAGE: &str = "usage: wheel [STRAP [FRAM [LIMIT [BOOTLOADER [LOCK [PORT1]]]]]]";
+
+const HELP: &str =
+    "A reaction wheel's command unit. Port 0 is standard input and standard output. On port 1 nothing comes in, and what leaves\n\
+    there is written to a file or told. Neither is ever sending. The unit hears 0x60+STRAP, which it answers on port 0, and\n\
+    0x40+STRAP, which it answers on port 1. At the end it says on standard error how often each answer came, which\n\
+    diagnostics moved, whether bootloader FRAM is locked, the largest cost of a CRC command, as a count of bytes and blocks,\n\
+    what was written on port 0, and how many replies left on port 1.\n\
+    \x20 STRAP       0 to 7; 1 if there is none\n\
+    \x20 FRAM        bytes of user FRAM, a multiple of 256 from 256 to 262144; 65536 if there is none\n\
+    \x20 LIMIT       the most data bytes of a message, 260 to 1028; 1028 if there is none\n\
+    \x20 BOOTLOADER  bytes of bootloader FRAM, as those of FRAM\n\
+    \x20 LOCK        whether bootloader FRAM is locked: locked, or unlocked, as it is if there is none\n\
+    \x20 PORT1       the number of an open file descriptor, 3 to 1023, for replies on port 1; if there is none, a line on\n\
+    \x20             standard error tells of each\n\
+    Numbers are decimal, or hexadecimal after 0x. A PING and its reply:\n\
+    \x20 printf '\\xc0\\x61\\x11\\x80\\xe3\\x6e\\xc0' | ./run | od -An -tx1z";
+
+fn said(rt: &impl Eprint, words: &str) {
+    let _ = rt.eprintln(words);
 }
 
-fn usage_to(file: i32) {
-    io::write_all(
-        file,
-        b"usage: wheel [STRAP [FRAM [LIMIT [BOOTLOADER [LOCK [PORT1]]]]]]\n",
-    );
+pub fn help(rt: &impl Print) {
+    let _ = rt.println(USAGE);
+    let _ = rt.println(HELP);
 }
 
-pub fn help() {
-    usage_to(STDOUT_FILENO);
-    io::write_all(
-        STDOUT_FILENO,
-        b"A reaction wheel's command unit. Port 0 is standard input and standard output. On port 1 nothing comes in, and what leaves\n\
-        there is written to a file or told. Neither is ever sending. The unit hears 0x60+STRAP, which it answers on port 0, and\n\
-        0x40+STRAP, which it answers on port 1. At the end it says on standard error how often each answer came, which\n\
-        diagnostics moved, whether bootloader FRAM is locked, the largest cost of a CRC command, as a count of bytes and blocks,\n\
-        what was written on port 0, and how many replies left on port 1.\n\
-        \x20 STRAP       0 to 7; 1 if there is none\n\
-        \x20 FRAM        bytes of user FRAM, a multiple of 256 from 256 to 262144; 65536 if there is none\n\
-        \x20 LIMIT       the most data bytes of a message, 260 to 1028; 1028 if there is none\n\
-        \x20 BOOTLOADER  bytes of bootloader FRAM, as those of FRAM\n\
-        \x20 LOCK        whether bootloader FRAM is locked: locked, or unlocked, as it is if there is none\n\
-        \x20 PORT1       the number of an open file descriptor, 3 to 1023, for replies on port 1; if there is none, a line on\n\
-        \x20             standard error tells of each\n\
-        Numbers are decimal, or hexadecimal after 0x. A PING and its reply:\n\
-        \x20 printf '\\xc0\\x61\\x11\\x80\\xe3\\x6e\\xc0' | ./run | od -An -tx1z\n",
-    );
+// Of an argument that will not do.
+fn refused(rt: &impl Eprint, why: &str) {
+    let _ = eprintln!(rt; "wheel: {why}; {}", USAGE);
 }
 
-fn usage() {
-    usage_to(STDERR_FILENO);
+pub fn too_many(rt: &impl Eprint) {
+    refused(rt, "there are at most six arguments");
 }
 
-pub fn too_many() {
-    said(b"wheel: there are at most six arguments; ");
-    usage();
+pub fn bad_strap(rt: &impl Eprint) {
+    refused(rt, "STRAP is a number from 0 to 7");
 }
 
-pub fn bad_strap() {
-    said(b"wheel: STRAP is a number from 0 to 7; ");
-    usage();
+pub fn bad_fram(rt: &impl Eprint) {
+    refused(rt, "FRAM is a multiple of 256 from 256 to 262144");
 }
 
-pub fn bad_fram() {
-    said(b"wheel: FRAM is a multiple of 256 from 256 to 262144; ");
-    usage();
+pub fn bad_limit(rt: &impl Eprint) {
+    refused(rt, "LIMIT is a number from 260 to 1028");
 }
 
-pub fn bad_limit() {
-    said(b"wheel: LIMIT is a number from 260 to 1028; ");
-    usage();
+pub fn bad_bootloader(rt: &impl Eprint) {
+    refused(rt, "BOOTLOADER is a multiple of 256 from 256 to 262144");
 }
 
-pub fn bad_bootloader() {
-    said(b"wheel: BOOTLOADER is a multiple of 256 from 256 to 262144; ");
-    usage();
+pub fn bad_lock(rt: &impl Eprint) {
+    refused(rt, "LOCK is locked or unlocked");
 }
 
-pub fn bad_lock() {
-    said(b"wheel: LOCK is locked or unlocked; ");
-    usage();
+pub fn bad_port1(rt: &impl Eprint) {
+    refused(rt, "PORT1 is a number from 3 to 1023");
 }
 
-pub fn bad_port1() {
-    said(b"wheel: PORT1 is a number from 3 to 1023; ");
-    usage();
-}
-
-pub fn read_failed(error: i32) {
-    if error == libc::EAGAIN {
-        said(b"wheel: standard input would block: O_NONBLOCK is set on it; open it without\n");
-    } else {
-        os::fail(b"wheel: cannot read standard input");
+// A read or a write of a file that failed, and what could not be done.
+fn failed(rt: &impl Eprint, file: &str, what: &str, error: Error) {
+    if error.kind() == ErrorKind::WouldBlock {
+        let _ = eprintln!(rt;
+            "wheel: {file} would block: O_NONBLOCK is set on it; open it without"
+        );
+        return;
     }
+    // The error's own words are the system's, and then its number in brackets, which is not said.
+    let text = InlineText::<128>::of(error);
+    let all = text.as_str();
+    let why = match all.split_once(" (os error ") {
+        Some((words, _)) => words,
+        None => all,
+    };
+    let _ = eprintln!(rt; "wheel: cannot {what} {file}: {why}");
 }
 
-fn output_failed(error: i32) {
-    if error == libc::EAGAIN {
-        said(b"wheel: standard output would block: O_NONBLOCK is set on it; open it without\n");
-    } else {
-        os::fail(b"wheel: cannot write standard output");
-    }
+pub fn read_failed(rt: &impl Eprint, error: Error) {
+    failed(rt, "standard input", "read", error);
 }
 
-fn port1_failed(error: i32) {
-    if error == libc::EAGAIN {
-        said(b"wheel: the file of port 1 would block: O_NONBLOCK is set on it; open it without\n");
+// The name of a port's output.
+fn output(port: u64) -> &'static str {
+    if port == 0 {
+        "standard output"
     } else {
-        os::fail(b"wheel: cannot write the file of port 1");
+        "the file of port 1"
     }
 }
 
 // Of a port's output.
-pub fn write_failed(port: u64, error: i32) {
-    if port == 0 {
-        output_failed(error);
-    } else {
-        port1_failed(error);
-    }
+pub fn write_failed(rt: &impl Eprint, port: u64, error: Error) {
+    failed(rt, output(port), "write", error);
 }
 
-pub fn takes_nothing(port: u64) {
-    if port == 0 {
-        said(b"wheel: standard output takes no bytes\n");
-    } else {
-        said(b"wheel: the file of port 1 takes no bytes\n");
-    }
+pub fn takes_nothing(rt: &impl Eprint, port: u64) {
+    let file = output(port);
+    let _ = eprintln!(rt; "wheel: {file} takes no bytes");
 }
 
 // A line with a name and a number.
-fn line(name: &[u8], value: u64) {
-    said(name);
-    io::print_decimal(STDERR_FILENO, value);
-    said(b"\n");
+fn line(rt: &impl Eprint, name: &str, value: u64) {
+    let _ = eprintln!(rt; "{name}: {value}");
 }
 
 // A reply that left on port 1, where there is no file for it.
-pub fn left_on_port1(length: u64) {
-    said(b"wheel: a reply of ");
-    io::print_decimal(STDERR_FILENO, length);
-    said(b" bytes left on port 1\n");
+pub fn left_on_port1(rt: &impl Eprint, length: u64) {
+    let _ = eprintln!(rt; "wheel: a reply of {length} bytes left on port 1");
 }
 
 // A line with a name, a place and the number there, unless that is 0.
-fn numbered(name: &[u8], i: usize, value: u64) {
+fn numbered(rt: &impl Eprint, name: &str, i: usize, value: u64) {
     if value > 0 {
-        said(name);
-        io::print_decimal(STDERR_FILENO, i as u64);
-        line(b": ", value);
+        let _ = eprintln!(rt; "{name} {i}: {value}");
     }
 }
 
 // How often each answer came, by its number.
-fn answers(tally: &[u64; 30]) {
-    let mut i = 0;
-    while i < 30 {
-        numbered(b"answer ", i, tally[i]);
-        i += 1;
+fn answers(rt: &impl Eprint, tally: &[u64; 30]) {
+    for i in 0..30 {
+        numbered(rt, "answer", i, tally[i]);
     }
 }
 
@@ -157,25 +139,24 @@ fn moved(i: usize, value: u32) -> u64 {
 }
 
 // The diagnostics that moved.
-fn diagnostics(values: &[u32; 31]) {
-    let mut i = 0;
-    while i < 31 {
-        numbered(b"diagnostic ", i, moved(i, values[i]));
-        i += 1;
+fn diagnostics(rt: &impl Eprint, values: &[u32; 31]) {
+    for i in 0..31 {
+        numbered(rt, "diagnostic", i, moved(i, values[i]));
     }
 }
 
 // Whether bootloader FRAM is locked.
-fn lock(locked: bool) {
+fn lock(rt: &impl Eprint, locked: bool) {
     if locked {
-        said(b"bootloader FRAM: locked\n");
+        said(rt, "bootloader FRAM: locked");
     } else {
-        said(b"bootloader FRAM: unlocked\n");
+        said(rt, "bootloader FRAM: unlocked");
     }
 }
 
 // What is said at the end. A reply has two FENDs, its first byte and its last.
 pub fn ended(
+    rt: &impl Eprint,
     tally: &[u64; 30],
     values: &[u32; 31],
     locked: bool,
@@ -184,20 +165,20 @@ pub fn ended(
     fends: u64,
     left1: u64,
 ) {
-    answers(tally);
-    diagnostics(values);
-    lock(locked);
-    line(b"largest cost of a CRC: ", largest as u64);
-    line(b"replies written on port 0: ", fends / 2);
-    line(b"bytes written on port 0: ", bytes);
-    line(b"replies left on port 1: ", left1);
+    answers(rt, tally);
+    diagnostics(rt, values);
+    lock(rt, locked);
+    line(rt, "largest cost of a CRC", largest as u64);
+    line(rt, "replies written on port 0", fends / 2);
+    line(rt, "bytes written on port 0", bytes);
+    line(rt, "replies left on port 1", left1);
 }
 
 // One more answer of its number.
 pub fn count(tally: &mut [u64; 30], number: u8) {
     let i = number as usize;
     if i < 30 {
-        tally[i] = std::num::wrapping_add_u64(tally[i], 1);
+        tally[i] = tally[i].wrapping_add(1);
     }
 }
 

@@ -18,7 +18,6 @@ use Rattle.replying.specs.Ports.{said_on}
 use Rattle.commanding.specs.World.{world, held_of}
 use Rattle.commanding.specs.Commanded.{commanded_of}
 use Rattle.commanding.proofs.Answering.{the_command_is_answered, the_data_has_room}
-use borrow.Author.Rules.{rules}
 use Rattle.commanding.proofs.commanded.Goals as goal
 
 -- the unit's own array as it is made, and its part that is lent to the handler

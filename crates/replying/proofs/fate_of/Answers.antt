@@ -1,6 +1,5 @@
 -- `replying::fate_of` meets its contract, by what the command came to. Assumes nothing.
 use Rattle.replying.proofs.OnPorts.{of_one_done, of_one_refused, of_one_unfitted}
-use borrow.Author.Rules.{rules}
 use Rattle.replying.proofs.fate_of.Goals as goal
 
 pub returns-in-Done : goal.returns-in-Done

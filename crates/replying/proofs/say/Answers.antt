@@ -7,7 +7,6 @@ use Rattle.line.specs.Packing.{packed_of}
 use Rattle.memory.specs.Bytes.{stretch, begun}
 use Rattle.replying.specs.Replies.{reply_message}
 use Rattle.replying.proofs.Saying.{said_unfitted, refused_silently, refused_aloud, done_silently, done_aloud, the_field_stands}
-use borrow.Author.Rules.{rules}
 use Rattle.replying.proofs.say.Goals as goal
 
 pub returns-then-control-lt-POLLED : goal.returns-then-control-lt-POLLED

@@ -2,7 +2,6 @@
 use Rattle.replying.proofs.Sealing.{the_reply_is_sent, the_reply_has_room, the_reply_is_legal}
 use native.Mathlib.Omega.{arith}
 use lib.ListN.{length-set}
-use borrow.Author.Rules.{rules}
 use Rattle.replying.proofs.send.Goals as goal
 
 pub slice_bounds-sum-end : goal.slice_bounds-sum-end

@@ -6,7 +6,6 @@ use Rattle.carrying.proofs.Limits.{within_both_ends}
 use Rattle.judging.proofs.Serving.{a_served_set_up_fits, a_served_set_up_is_limited}
 use Rattle.commanding.specs.World.{world, lengths_of}
 use Rattle.unit.proofs.Serving.{set_up_refused, set_up_served}
-use borrow.Author.Rules.{rules}
 use Rattle.unit.proofs.set_up.Goals as goal
 
 pub compute_sums-requires : goal.compute_sums-requires

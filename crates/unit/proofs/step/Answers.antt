@@ -7,7 +7,6 @@ use Rattle.ports.specs.declared.Side.TheVariants.{Zero, One}
 use Rattle.commanding.specs.World.{world}
 use Rattle.judging.proofs.Ways.{long_enough_of}
 use Rattle.unit.proofs.Serving.{guaranteed_by, an_answer_alone, a_drop_is_counted, a_command_is_served}
-use borrow.Author.Rules.{rules}
 use Rattle.unit.proofs.step.Goals as goal
 
 pub commanded-requires : goal.commanded-requires
