@@ -1,6 +1,5 @@
 -- `board::wheel_set_up` meets its contract: what `unit::set_up` ensures, put into C's form. Assumes nothing.
 use Rattle.face.proofs.Passing.{a_set_up_passed_on}
-use borrow.Author.Rules.{rules}
 use Rattle.board.proofs.wheel_set_up.Goals as goal
 
 pub returns : goal.returns

@@ -1,6 +1,5 @@
 -- `board::wheel_step` meets its contract: what `unit::step` ensures, put into C's form. Assumes nothing.
 use Rattle.face.proofs.Passing.{a_step_passed_on}
-use borrow.Author.Rules.{rules}
 use Rattle.board.proofs.wheel_step.Goals as goal
 
 pub returns : goal.returns

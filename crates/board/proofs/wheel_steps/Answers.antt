@@ -2,7 +2,6 @@
 use Rattle.blocks.specs.Fram.{kept}
 use Rattle.commanding.specs.World.{world}
 use Rattle.face.proofs.Passing.{many_bytes_passed_on}
-use borrow.Author.Rules.{rules}
 use Rattle.board.proofs.wheel_steps.Goals as goal
 
 pub returns : goal.returns
