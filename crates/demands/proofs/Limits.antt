@@ -1,7 +1,7 @@
 -- 02, T-06: what a limit means for bytes on the line, and T-01: that there are two ports. (That the round trip and the demands hold under every limit is said
 -- where they stand: DemandOne, DemandTwo, DemandThree.) Assumes nothing.
 use mathlib.Core.Path.{◌≡◌, refl, sym, ap, ap₂, ◌∙◌}
-use mathlib.Core.Bool.{Bool, true, false, ◌&&◌, false≢true}
+use mathlib.Core.Bool.{Bool, false, ◌&&◌, false≢true}
 use mathlib.Core.Logic.{◌⊎◌, inl, inr}
 use mathlib.Core.List.{List, [], ◌∷◌}
 use Prim.Native.Nat.{ℕ, ◌≤◌, ◌<◌}

@@ -1,7 +1,6 @@
 -- `answer::number_of` meets its contract: each case of the answer has its number. Assumes nothing.
 use mathlib.Core.Path.{sym, ap}
 use Rattle.answer.specs.Answers.{number_of}
-use borrow.Author.Rules.{rules}
 use Rattle.answer.proofs.number_of.Goals as goal
 
 pub returns-in-Taken : goal.returns-in-Taken

@@ -1,7 +1,6 @@
 -- `answer::sent_of` meets its contract: two cases of the answer send bytes, the others none. Assumes nothing.
 use mathlib.Core.Path.{sym, ap}
 use Rattle.answer.specs.Answers.{sent_of}
-use borrow.Author.Rules.{rules}
 use Rattle.answer.proofs.sent_of.Goals as goal
 
 pub returns-in-Acked : goal.returns-in-Acked

@@ -1,7 +1,6 @@
 -- `face::joined` meets its contract: what `crc::join` ensures of each case of its answer, put into C's form. Assumes
 -- nothing.
 use mathlib.Core.Path.{sym, ap, ◌∙◌}
-use borrow.Author.Rules.{rules}
 use Rattle.crc.specs.Joining.{joining_of}
 use Rattle.face.specs.Face.{joined_out}
 use Rattle.face.proofs.joined.Goals as goal

@@ -1,6 +1,5 @@
 -- `face::judged` meets its contract: what `judge_list` answers, as C's yes or no. Assumes nothing.
 use mathlib.Core.Bool.{true, false}
-use borrow.Author.Rules.{rules}
 use Rattle.face.proofs.Passing.{a_judgement_passed_on}
 use Rattle.face.proofs.judged.Goals as goal
 

@@ -2,7 +2,6 @@
 -- nothing.
 use mathlib.Core.Path.{sym, ap, ◌∙◌}
 use Rattle.line.specs.Packing.{packing_of}
-use borrow.Author.Rules.{rules}
 use Rattle.face.proofs.packed.Goals as goal
 
 pub returns-in-Sent : goal.returns-in-Sent

@@ -1,5 +1,4 @@
 -- `face::stored` meets its contract: what `store_list` ensures of each case of its answer, by the case's number. Assumes nothing.
-use borrow.Author.Rules.{rules}
 use Rattle.file_commands.specs.declared.write_file.Storing.TheVariants.{Stored, Unfit, BadEdac}
 use Rattle.face.proofs.Passing.{a_storing_passed_on}
 use Rattle.face.proofs.stored.Goals as goal

@@ -1,7 +1,6 @@
 -- `streaming::quietly` meets its contract: what listening on the port takes. Assumes nothing.
 use Rattle.ports.specs.Sides.{both}
 use Rattle.streaming.proofs.Streaming.{those_of_a_port}
-use borrow.Author.Rules.{rules}
 use Rattle.streaming.proofs.quietly.Goals as goal
 
 pub returns : goal.returns

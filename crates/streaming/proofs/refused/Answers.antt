@@ -1,6 +1,5 @@
 -- `streaming::refused` meets its contract, with bytes and without. Assumes nothing.
 use borrow.Author.Tests.{eq-eqb, ne_eqb}
-use borrow.Author.Rules.{rules}
 use Rattle.streaming.proofs.refused.Goals as goal
 
 pub returns-then-bytes-eq0 : goal.returns-then-bytes-eq0

@@ -1,16 +1,14 @@
 -- `streaming::steps` meets its contract: refused, or bytes that are only heard and the step at which they end, if they do. Assumes nothing.
 use mathlib.Core.Path.{sym, ◌∙◌}
-use native.Mathlib.Omega.{arith}
 use Rattle.blocks.specs.Fram.{kept}
 use Rattle.ports.specs.Sides.{both}
 use Rattle.commanding.specs.World.{world}
 use Rattle.streaming.proofs.Streaming.{no_longer_than_any, a_refused_call, up_to_an_answer, up_to_the_end}
-use borrow.Author.Rules.{rules}
 use Rattle.streaming.proofs.steps.Goals as goal
 
 pub quietly-heard-requires : goal.quietly-heard-requires
 quietly-heard-requires c = let a = c.args in
- no_longer_than_any a.unit a.port _ (sym c.step_fit-fit.ensures ∙ c.in-Fits.is)
+    no_longer_than_any a.unit a.port _ (sym c.step_fit-fit.ensures ∙ c.in-Fits.is)
 
 pub returns-then-taken-bytes : goal.returns-then-taken-bytes
 returns-then-taken-bytes c =

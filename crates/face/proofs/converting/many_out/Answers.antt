@@ -1,5 +1,4 @@
 -- `face::converting::many_out` meets its contract: each field is the one meant. Assumes nothing.
-use borrow.Author.Rules.{rules}
 use Rattle.face.proofs.converting.many_out.Goals as goal
 
 pub returns : goal.returns

@@ -1,7 +1,6 @@
 -- `face::converting::port_in` meets its contract, by its test. Assumes nothing.
 use borrow.Author.Tests.{eq-eqb, ne_eqb}
 use Rattle.face.specs.Records.{port_in}
-use borrow.Author.Rules.{rules}
 use Rattle.face.proofs.converting.port_in.Goals as goal
 
 pub returns-then-place-eq-THROWN : goal.returns-then-place-eq-THROWN

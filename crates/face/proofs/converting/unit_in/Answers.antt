@@ -1,5 +1,4 @@
 -- `face::converting::unit_in` meets its contract: each field is the one meant. Assumes nothing.
-use borrow.Author.Rules.{rules}
 use Rattle.face.proofs.converting.unit_in.Goals as goal
 
 pub returns : goal.returns

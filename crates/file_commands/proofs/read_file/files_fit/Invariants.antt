@@ -1,12 +1,10 @@
 -- `file_commands::read_file::files_fit` meets its contract. The invariant: what is left of the list fits in what is free if the whole
 -- fits in the room. Assumes nothing.
-use mathlib.Core.Path.{◌≡◌, refl, sym, ◌∙◌}
+use mathlib.Core.Path.{◌≡◌}
 use Prim.Native.Nat.{◌-◌}
-use native.Mathlib.Omega.{arith}
 use lib.Dec.{leb}
 use lib.ListN.{length, drop}
 use Rattle.file_commands.specs.ReadFile.{files_width}
-use Rattle.file_commands.proofs.Lists.{a_byte_on, fit_turn, the_first_does_not_fit, nothing_fits}
 use Rattle.file_commands.proofs.read_file.files_fit.Given as goal
 
 abbrev pub invariant-loop-at : goal.invariant-loop-at

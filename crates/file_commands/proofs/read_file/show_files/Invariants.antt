@@ -1,12 +1,9 @@
 -- `file_commands::read_file::show_files` meets its contract. The invariant: of the whole reply so much is written. Assumes nothing.
-use mathlib.Core.Path.{◌≡◌, refl, sym, ap, ◌∙◌}
+use mathlib.Core.Path.{◌≡◌}
 use Prim.Native.Nat.{◌+◌, ◌-◌}
-use native.Mathlib.Omega.{arith}
-use lib.ListN.{length, drop, get_or}
-use Rattle.memory.proofs.Files.{a_file_is_shown_in_its_size}
+use lib.ListN.{length, drop}
 use Rattle.file_commands.specs.ReadFile.{files_shown, files_width}
-use Rattle.carrying.proofs.Writing.{Written, nothing_written, more_of_it, end_of_it, size_of_it}
-use Rattle.file_commands.proofs.Lists.{a_byte_on, width_turn, shown_files_turn, shown_files_end}
+use Rattle.carrying.proofs.Writing.{Written}
 use Rattle.file_commands.proofs.read_file.show_files.Given as goal
 
 abbrev pub invariant-loop-at : goal.invariant-loop-at

@@ -1,12 +1,9 @@
 -- `file_commands::write_file::is_whole` meets its contract. The invariant: what is left of the list decides the whole. Assumes nothing.
-use mathlib.Core.Path.{◌≡◌, refl, sym, ap, ◌∙◌}
-use Prim.Native.Nat.{◌-◌}
+use mathlib.Core.Path.{refl, sym, ap, ◌∙◌}
 use native.Mathlib.Omega.{arith}
-use lib.ListN.{length, drop}
 use Rattle.memory.specs.Edac.{shown_size}
 use Rattle.field.specs.Reading.{is_whole}
 use Rattle.field.proofs.Lists.{list_ends}
-use Rattle.file_commands.specs.WriteFile.{listed}
 use Rattle.file_commands.proofs.Lists.{a_file_stands, the_list_is_cut}
 use Rattle.file_commands.proofs.write_file.is_whole.Goals as goal
 

@@ -1,13 +1,9 @@
 -- `file_commands::write_file::is_whole` meets its contract. The invariant: what is left of the list decides the whole. Assumes nothing.
-use mathlib.Core.Path.{◌≡◌, refl, sym, ap, ◌∙◌}
+use mathlib.Core.Path.{◌≡◌}
 use Prim.Native.Nat.{◌-◌}
-use native.Mathlib.Omega.{arith}
 use lib.ListN.{length, drop}
-use Rattle.memory.specs.Edac.{shown_size}
 use Rattle.field.specs.Reading.{is_whole}
-use Rattle.field.proofs.Lists.{list_ends}
 use Rattle.file_commands.specs.WriteFile.{listed}
-use Rattle.file_commands.proofs.Lists.{a_file_stands, the_list_is_cut}
 use Rattle.file_commands.proofs.write_file.is_whole.Given as goal
 
 abbrev pub invariant-loop-at : goal.invariant-loop-at

@@ -1,14 +1,11 @@
 -- `file_commands::write_file::show_files` meets its contract. The invariant: of the whole reply so much is written as of the list is
 -- passed. Assumes nothing.
-use mathlib.Core.Path.{◌≡◌, refl, sym, ap, ◌∙◌}
+use mathlib.Core.Path.{◌≡◌}
 use Prim.Native.Nat.{◌+◌, ◌-◌}
-use native.Mathlib.Omega.{arith}
-use lib.ListN.{length, drop, get_or}
-use Rattle.memory.proofs.Files.{a_file_is_shown_in_its_size}
+use lib.ListN.{length, drop}
 use Rattle.file_commands.specs.ReadFile.{files_shown}
 use Rattle.file_commands.specs.WriteFile.{listed, files_of}
-use Rattle.carrying.proofs.Writing.{Written, nothing_written, more_of_it, end_of_it, size_of_it}
-use Rattle.file_commands.proofs.Lists.{a_file_stands, the_list_is_cut, listed_files_turn, no_files_left, no_files_in_a_cut_list}
+use Rattle.carrying.proofs.Writing.{Written}
 use Rattle.file_commands.proofs.write_file.show_files.Given as goal
 
 abbrev pub invariant-loop-at : goal.invariant-loop-at

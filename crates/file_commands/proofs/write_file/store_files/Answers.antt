@@ -1,10 +1,10 @@
 -- `file_commands::write_file::store_files` meets its contract. The invariant: storing what is left gives what the list shall store.
 -- Assumes nothing.
-use mathlib.Core.Path.{◌≡◌, refl, sym, ap, ◌∙◌}
-use Prim.Native.Nat.{◌+◌, ◌-◌}
+use mathlib.Core.Path.{refl, sym, ap, ◌∙◌}
+use Prim.Native.Nat.{◌+◌}
 use native.Mathlib.Omega.{arith}
 use lib.ListN.{length, drop, get_or}
-use Rattle.memory.specs.Edac.{edac_size, shown_size, body_size}
+use Rattle.memory.specs.Edac.{shown_size, body_size}
 use Rattle.read_only.specs.Files.{file_stored}
 use Rattle.memory.proofs.Stretches.{length_of_a_stretch}
 use Rattle.field.proofs.Lists.{list_ends}
