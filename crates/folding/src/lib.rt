@@ -13,35 +13,21 @@ const LEFT: usize = 16;
 // How many bytes those are.
 pub const CHUNK: usize = 64;
 
-// `whole`, below, is never read: it is there for the proof, which knows the length of an array behind a reference once
-// that is lent as a slice.
-
-// A function of its own, so that the proof of `word` knows that it is below 256.
-fn wide(byte: u8) -> u32
-    ensures { (result ≡ byte) × (result < 256) }
-{
-    byte as u32
-}
-
 // The word at a place, its low byte first.
 fn word(bytes: &[u8], at: usize) -> u32
     requires { at + 4 ≤ length bytes.now }
     ensures { result ≡ word_at bytes.now at }
 {
-    let low = wide(bytes[at]) + 256 * wide(bytes[at + 1]);
-    let three = low + 65536 * wide(bytes[at + 2]);
-    three + 16777216 * wide(bytes[at + 3])
+    u32::from_le_bytes([bytes[at], bytes[at + 1], bytes[at + 2], bytes[at + 3]])
 }
 
-// Copies the upper half over the lower.
+// Copies the upper half over the lower. Not by `copy_from_slice`, which makes numbers of two addresses and compares them: an
+// archive for another processor could not be made of that (tools/module).
 fn lower(words: &mut [u32; 32])
     ensures { words.new ≡ drop 16 words.old ++ drop 16 words.old }
 {
-    let whole: &[u32] = words;
-    let mut i = 0;
-    while i < LEFT {
+    for i in 0..LEFT {
         words[i] = words[i + LEFT];
-        i += 1;
     }
 }
 
@@ -50,11 +36,8 @@ fn load(words: &mut [u32; 32], chunk: &[u8])
     requires { length chunk.now ≡ 64 }
     ensures { words.new ≡ take 16 words.old ++ words_of chunk.now }
 {
-    let whole: &[u32] = words;
-    let mut i = 0;
-    while i < LEFT {
+    for i in 0..LEFT {
         words[i + LEFT] = word(chunk, i * 4);
-        i += 1;
     }
 }
 
@@ -62,13 +45,11 @@ fn load(words: &mut [u32; 32], chunk: &[u8])
 fn fold(words: &mut [u32; 32])
     ensures { drop 16 words.new ≡ folded 16 words.old }
 {
-    let mut i = 0;
-    while i < LEFT {
+    for i in 0..LEFT {
         let first = words[i];
-        words[i + 4] = words[i + 4] ^ first;
-        words[i + 11] = words[i + 11] ^ first;
-        words[i + LEFT] = words[i + LEFT] ^ first;
-        i += 1;
+        words[i + 4] ^= first;
+        words[i + 11] ^= first;
+        words[i + LEFT] ^= first;
     }
 }
 
@@ -78,13 +59,10 @@ fn halve(words: &mut [u32; 32], base: u32)
     requires { 0 < base }
     ensures { words.new ≡ halves_of base (drop 16 words.old) }
 {
-    let whole: &[u32] = words;
-    let mut i = 0;
-    while i < LEFT {
+    for i in 0..LEFT {
         let split = words[i + LEFT];
         words[i * 2] = split % base;
         words[i * 2 + 1] = split / base;
-        i += 1;
     }
 }
 
@@ -92,12 +70,9 @@ fn halve(words: &mut [u32; 32], base: u32)
 fn low_bytes(words: &[u32; 32]) -> [u8; 16]
     ensures { result ≡ low_bytes (drop 16 words.now) }
 {
-    let whole: &[u32] = words;
     let mut low = [0u8; 16];
-    let mut i = 0;
-    while i < LEFT {
-        low[i] = (words[i + LEFT] % 256) as u8;
-        i += 1;
+    for (i, byte) in low.iter_mut().enumerate() {
+        *byte = (words[i + LEFT] % 256) as u8;
     }
     low
 }
@@ -108,16 +83,14 @@ pub fn reduce(start: u16, bytes: &[u8]) -> [u8; 16]
     requires { (64 ≤ length bytes.now) × (length bytes.now % 64 ≡ 0) }
     ensures { result ≡ reduced start bytes.now }
 {
-    let mut words = [0u32; 32];
-    load(&mut words, &bytes[0..CHUNK]);
-    words[LEFT] = words[LEFT] ^ (start as u32);
-    let mut at = CHUNK;
-    while at < bytes.len() {
-        let end = at + CHUNK;
+    let (first, rest) = bytes.split_at(CHUNK);
+    let mut words = [0; 32];
+    load(&mut words, first);
+    words[LEFT] ^= u32::from(start);
+    for chunk in rest.chunks_exact(CHUNK) {
         lower(&mut words);
-        load(&mut words, &bytes[at..end]);
+        load(&mut words, chunk);
         fold(&mut words);
-        at = end;
     }
     halve(&mut words, 65536);
     fold(&mut words);
