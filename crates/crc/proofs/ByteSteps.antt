@@ -1,12 +1,12 @@
 -- The table's rule at each entry, and from there to the byte step of any sum. Assumes nothing.
-use mathlib.Core.Path.{◌≡◌, sym, ap, ap₂, ◌∙◌}
-use mathlib.Core.List.{List}
+use mathlib.Core.Path.{◌≡◌, refl, sym, ap, ap₂, ◌∙◌}
 use Prim.Native.Nat.{ℕ, zero, suc, ◌+◌, ◌*◌, ◌/◌, ◌%◌, ◌^◌, ◌<◌}
 use native.Mathlib.Nat.{add-zero, zero-add, add-suc, suc-add, mul-one, le_of_suc-le-suc, not-suc-le-zero, mod-lt, zero-lt-suc}
 use native.Mathlib.Omega.{arith}
 use lib.Bits.{bit_xor, xor_comm, xor_zero_r, xor_lt, xor_shr, xor_mod, shifted_half, shifted_even}
 use lib.ListN.{get_or}
 use Rattle.crc.specs.Sum.{gate, bit_step, bit_steps, steps, table_of, polynomial}
+use Rattle.crc.specs.declared.table.TheConstants.{TABLE}
 use Rattle.crc.proofs.Xor.{xor_assoc, xor_across, shift_linear, high_and_low}
 use Rattle.crc.proofs.Linear.{bit_steps_linear}
 use Rattle.crc.proofs.Halving.{Linear, agree}
@@ -39,10 +39,15 @@ low_and_high x =
     ∙ bit_steps_linear 8 (x / 256 * 2 ^ 8) (x % 256)
     ∙ ap (λ (y : ℕ). bit_xor y (bit_steps 8 (x % 256))) (moves_down 8 (x / 256)))
 
+-- The table's test: `refl` computes the eight bit steps of each of the 256 places and compares them with the program's entries.
+pub the_table : TABLE ≡ table_of
+unfolding table_of steps bit_steps bit_step
+the_table = refl
+
 -- by the table
-pub by_the_table : (table : List ℕ) (x : ℕ) → table ≡ table_of → bit_xor (get_or table (x % 256) 0) (x / 256) ≡ bit_steps 8 x
-by_the_table table x e =
-    ap (λ t. bit_xor (get_or t (x % 256) 0) (x / 256)) e
+pub by_the_table : (x : ℕ) → bit_xor (get_or TABLE (x % 256) 0) (x / 256) ≡ bit_steps 8 x
+by_the_table x =
+    ap (λ t. bit_xor (get_or t (x % 256) 0) (x / 256)) the_table
     ∙ ap (λ (y : ℕ). bit_xor y (x / 256)) (table_at (x % 256) (mod-lt x (zero-lt-suc 255)))
     ∙ xor_comm (bit_steps 8 (x % 256)) (x / 256)
     ∙ low_and_high x
@@ -99,21 +104,20 @@ half_steps k sum word =
     ∙ ap (bit_xor (bit_steps k (bit_xor sum low))) (moves_down k high))
 
 -- two bytes by the table: what is mixed is stepped twice
-pub two_by_the_table : (table : List ℕ) (sum low high : ℕ) → sum < 2 ^ 16 → low < 2 ^ 8 → high < 2 ^ 8 → table ≡ table_of
-    → bit_xor (get_or table (bit_xor (get_or table (bit_xor sum (low + 256 * high) % 256) 0) (bit_xor sum (low + 256 * high) / 256) % 256) 0) (get_or table (bit_xor sum (low + 256 * high) % 256) 0 / 256)
+pub two_by_the_table : (sum low high word : ℕ) → sum < 2 ^ 16 → low < 2 ^ 8 → high < 2 ^ 8 → word ≡ low + 256 * high
+    → bit_xor (get_or TABLE (bit_xor (get_or TABLE (bit_xor sum word % 256) 0) (bit_xor sum word / 256) % 256) 0) (get_or TABLE (bit_xor sum word % 256) 0 / 256)
     ≡ bit_steps 8 (bit_xor (bit_steps 8 (bit_xor sum low)) high)
-two_by_the_table table sum low high hs hl hh e =
-    let word = low + 256 * high in
+two_by_the_table sum low high word hs hl hh both =
     let mixed = bit_xor sum word in
-    let first = get_or table (mixed % 256) 0 in
+    let first = get_or TABLE (mixed % 256) 0 in
     let next = bit_xor first (mixed / 256) in
     let below : mixed < 2 ^ 16 = xor_lt 16 sum word hs (omega (arith, hl, hh)) in
     let gone : mixed / 256 / 256 ≡ 0 = omega (arith, below) in
     let the_low : word % 256 ≡ low = omega (arith, hl) in
     let the_high : word / 256 ≡ high = omega (arith, hl) in
-    ap (bit_xor (get_or table (next % 256) 0)) (sym (xor_shr first (mixed / 256) 8 ∙ ap (bit_xor (first / 256)) gone ∙ xor_zero_r (first / 256)))
-    ∙ by_the_table table next e
-    ∙ ap (bit_steps 8) (by_the_table table mixed e)
+    ap (bit_xor (get_or TABLE (next % 256) 0)) (sym (xor_shr first (mixed / 256) 8 ∙ ap (bit_xor (first / 256)) gone ∙ xor_zero_r (first / 256)))
+    ∙ by_the_table next
+    ∙ ap (bit_steps 8) (by_the_table mixed)
     ∙ sym (steps_add 8 8 mixed)
     ∙ half_steps 8 sum word
     ∙ ap₂ (λ (l h : ℕ). bit_steps 8 (bit_xor (bit_steps 8 (bit_xor sum l)) h)) the_low the_high

@@ -2,12 +2,12 @@
 use mathlib.Core.Path.{◌≡◌, refl, sym, ap, ap₂, subst, ◌∙◌}
 use mathlib.Core.List.{List, [], ◌∷◌, ◌++◌}
 use Prim.Native.Nat.{ℕ, zero, suc, ◌+◌, ◌-◌, ◌*◌, ◌/◌, ◌%◌, ◌^◌, ◌≤◌, ◌<◌}
-use native.Mathlib.Nat.{not-suc-le-zero, lt_of_lt_of_le, mod-eq_of_lt, sub-zero}
+use native.Mathlib.Nat.{not-suc-le-zero, lt_of_lt_of_le, mod-eq_of_lt}
 use native.Mathlib.Omega.{arith}
 use lib.Bits.{bit_xor, xor_comm, xor_zero_l}
 use lib.ListN.{length, take, drop, length-drop, length-append, take-append-drop}
 use lib.Pow.{pow_mono}
-use lib.Seq.{take_all, length-take-le}
+use lib.Seq.{length-take-le}
 use Rattle.folding.specs.Folding.{pairs, words_of, halves_of, put_on, folded, folded_through, chunks_folded, narrowed, low_bytes, reduced}
 use Rattle.folding.proofs.Turns.{length_pairs, length_words_of, length_halves_of}
 use Rattle.folding.proofs.Reducing.{length_on, length_folded}
@@ -134,36 +134,15 @@ sixteen_bytes_stand_for_all start bytes enough whole below fits =
 
 -- ---- whole chunks, and what is left of the bytes
 
--- the whole chunks, as they are lent
-standing_for : (start : ℕ) (bytes : List ℕ) → 64 ≤ length bytes → Below 8 bytes → start < 2 ^ 16
-    → (length (reduced start (take (length bytes / 64 * 64 - 0) bytes)) ≡ 16)
-    × (sum_from 0 (reduced start (take (length bytes / 64 * 64 - 0) bytes)) ≡ sum_from start (take (length bytes / 64 * 64) bytes))
-standing_for start bytes enough below fits =
+pub chunks_and_more : (start chunks sum : ℕ) (bytes whole rest standing : List ℕ) → 64 ≤ length bytes → Below 8 bytes → start < 2 ^ 16
+    → whole ≡ take (length bytes / 64 * 64) bytes → rest ≡ drop (length bytes / 64 * 64) bytes
+    → standing ≡ reduced start whole → chunks ≡ sum_from 0 standing → sum ≡ sum_from chunks rest → sum ≡ sum_from start bytes
+chunks_and_more start chunks sum bytes whole rest standing enough below fits ew er e ec es =
     let n = length bytes / 64 * 64 in
-    let lent : take (n - 0) bytes ≡ take n bytes = ap (λ (m : ℕ). take m bytes) (sub-zero n) in
     let size : length (take n bytes) ≡ n = length-take-le n bytes (omega arith) in
-    rw lent (sixteen_bytes_stand_for_all start (take n bytes) (omega (arith, size)) (omega (arith, size)) (take_below 8 n bytes below) fits)
-
-pub standing_size : (start : ℕ) (bytes standing : List ℕ) → 64 ≤ length bytes → Below 8 bytes → start < 2 ^ 16
-    → standing ≡ reduced start (take (length bytes / 64 * 64 - 0) bytes) → 16 ≡ length standing
-standing_size start bytes standing enough below fits e = sym (ap length e ∙ (standing_for start bytes enough below fits).0)
-
-pub all_in_chunks : (start chunks : ℕ) (bytes standing : List ℕ) → 64 ≤ length bytes → Below 8 bytes → start < 2 ^ 16
-    → standing ≡ reduced start (take (length bytes / 64 * 64 - 0) bytes) → chunks ≡ sum_from 0 standing
-    → length bytes ≤ length bytes / 64 * 64 → chunks ≡ sum_from start bytes
-all_in_chunks start chunks bytes standing enough below fits e ec none =
-    ec
-    ∙ ap (sum_from 0) e
-    ∙ (standing_for start bytes enough below fits).1
-    ∙ ap (sum_from start) (take_all (length bytes / 64 * 64) bytes none)
-
-pub chunks_and_more : (start chunks sum : ℕ) (bytes standing : List ℕ) → 64 ≤ length bytes → Below 8 bytes → start < 2 ^ 16
-    → standing ≡ reduced start (take (length bytes / 64 * 64 - 0) bytes) → chunks ≡ sum_from 0 standing
-    → sum ≡ sum_from chunks (take (length bytes - length bytes / 64 * 64) (drop (length bytes / 64 * 64) bytes)) → sum ≡ sum_from start bytes
-chunks_and_more start chunks sum bytes standing enough below fits e ec es =
-    let n = length bytes / 64 * 64 in
+    let standing_for = sixteen_bytes_stand_for_all start (take n bytes) (omega (arith, size)) (omega (arith, size)) (take_below 8 n bytes below) fits in
     es
-    ∙ ap (sum_from chunks) (take_all (length bytes - n) (drop n bytes) (omega (arith, length-drop n bytes)))
-    ∙ ap (λ (s : ℕ). sum_from s (drop n bytes)) (ec ∙ ap (sum_from 0) e ∙ (standing_for start bytes enough below fits).1)
+    ∙ ap (sum_from chunks) er
+    ∙ ap (λ (s : ℕ). sum_from s (drop n bytes)) (ec ∙ ap (sum_from 0) (e ∙ ap (reduced start) ew) ∙ standing_for.1)
     ∙ sym (sum_from_append start (take n bytes) (drop n bytes))
     ∙ ap (sum_from start) (take-append-drop n bytes)

@@ -81,7 +81,7 @@ product_zero zero sum = refl
 product_zero (suc k) sum = ap₂ bit_xor (bit_steps_zero k) (product_zero k sum)
 
 -- a last step more
-steps_last : (k a : ℕ) → bit_steps (suc k) a ≡ bit_step (bit_steps k a)
+pub steps_last : (k a : ℕ) → bit_steps (suc k) a ≡ bit_step (bit_steps k a)
 unfolding bit_steps
 steps_last zero a = refl
 steps_last (suc k) a = steps_last k (bit_step a)

@@ -3,7 +3,7 @@ use mathlib.Core.Path.{◌≡◌, refl, sym, ap, ap₂, ◌∙◌}
 use mathlib.Core.List.{List, [], ◌∷◌, ◌++◌, map}
 use mathlib.Core.Option.{some}
 use mathlib.Core.Bool.{cond}
-use Prim.Native.Nat.{ℕ, ◌+◌, ◌-◌, ◌^◌, ◌≤◌, ◌<◌}
+use Prim.Native.Nat.{ℕ, ◌+◌, ◌^◌, ◌≤◌, ◌<◌}
 use native.Mathlib.Nat.{add-zero, zero-add, add_assoc, le_trans, le-add_right, le-add_left}
 use native.Mathlib.Omega.{arith}
 use borrow.Author.Tests.{le-leb, lt-leb}
@@ -11,8 +11,10 @@ use lib.Bits.{bit_xor, xor_lt}
 use lib.Dec.{lit<}
 use lib.ListN.{length, length-append}
 use Rattle.crc.specs.declared.Part.{Part}
-use Rattle.crc.specs.declared.Joined.{Joined}
-use Rattle.crc.specs.declared.Joined.TheVariants.{Whole, TooLong}
+use Rattle.std.proofs.Common.{Result, Ok, Err}
+use Rattle.std.specs.Result.{IsErr}
+use Rattle.crc.specs.declared.JoinError.{JoinError}
+use Rattle.crc.specs.declared.JoinError.TheVariants.{TooLong}
 use Rattle.crc.specs.Sum.{start, byte_step, sum_from, sum_of, carried}
 use Rattle.crc.specs.Joining.{part_of, neutral, joined_of, join_all, longest_part, joining_of, with_part, too_long, join_of, join_parts, Order, only, both, parts_of, joined_in, joining_in, all_bytes, power_of, product}
 use Rattle.crc.proofs.Xor.{xor_assoc, xor_twice}
@@ -103,27 +105,29 @@ any_order_answers_the_whole pieces t e h =
     order_answers t (rw (any_order_gives_the_whole pieces t e) h) ∙ ap with_part (any_order_gives_the_whole pieces t e)
 
 -- Two outcomes that the contract of `join` allows are equal.
-pub join_has_one_outcome : (a b : Part) (r s : Joined) → joining_of r ≡ join_of a b → joining_of s ≡ join_of a b → r ≡ s
+pub join_has_one_outcome : (a b : Part) (r s : Result Part JoinError) → joining_of r ≡ join_of a b → joining_of s ≡ join_of a b → r ≡ s
 join_has_one_outcome a b r s hr hs = same r s (hr ∙ sym hs)
   where
-    same : (r s : Joined) → joining_of r ≡ joining_of s → r ≡ s
-    same (Whole p) (Whole q) e = let h : some p ≡ some q = ap (λ x. x.part) e in cc
-    same (Whole p) TooLong e = let z : ◌≡◌ {A = ℕ} 0 36 = ap (λ x. x.number) e in absurd (omega arith)
-    same TooLong (Whole q) e = let z : ◌≡◌ {A = ℕ} 36 0 = ap (λ x. x.number) e in absurd (omega arith)
-    same TooLong TooLong e = refl
+    same : (r s : Result Part JoinError) → joining_of r ≡ joining_of s → r ≡ s
+    same (Ok p) (Ok q) e = let h : some p ≡ some q = ap (λ x. x.part) e in cc
+    same (Ok p) (Err TooLong) e = let z : ◌≡◌ {A = ℕ} 0 36 = ap (λ x. x.number) e in absurd (omega arith)
+    same (Err TooLong) (Ok q) e = let z : ◌≡◌ {A = ℕ} 36 0 = ap (λ x. x.number) e in absurd (omega arith)
+    same (Err TooLong) (Err TooLong) e = refl
 
 -- ---- the two ways through `join`
 
-pub join_refuses : (a b : Part) → longest_part - a.len < b.len → too_long ≡ join_of a b
+pub join_refuses : (a b : Part) (r : Result Part JoinError) → IsErr r → ¬ (a.len + b.len < 4294967296) → joining_of r ≡ join_of a b
 unfolding join_of
-join_refuses a b h = simp (lt-leb (a.len + b.len) longest_part (omega arith))
+join_refuses a b (Ok p) refused h = cc
+join_refuses a b (Err TooLong) refused h = simp (lt-leb (a.len + b.len) longest_part (omega arith))
 
-pub join_joins : (a b : Part) (power carried : ℕ) → a.sum < 2 ^ 16 → a.len ≤ longest_part → b.len ≤ longest_part - a.len → power ≡ power_of b.len
-    → carried ≡ product 16 (bit_xor a.sum start) power → with_part (record { sum = bit_xor carried b.sum; len = a.len + b.len }) ≡ join_of a b
+pub join_joins : (a b : Part) (power carried len : ℕ) → a.sum < 2 ^ 16 → a.len + b.len < 4294967296 → len ≡ a.len + b.len → power ≡ power_of b.len
+    → carried ≡ product 16 (bit_xor a.sum start) power → with_part (record { sum = bit_xor carried b.sum; len = len }) ≡ join_of a b
 unfolding join_of joined_of
-join_joins a b power carried small fits room ep ec =
+join_joins a b power carried len small fits el ep ec =
     simp (le-leb (a.len + b.len) longest_part (omega arith))
-    (ap (λ (x : ℕ). with_part (record { sum = bit_xor x b.sum; len = a.len + b.len }))
+    (ap₂ (λ (x n : ℕ). with_part (record { sum = bit_xor x b.sum; len = n }))
     (ec
     ∙ ap (product 16 (bit_xor a.sum start)) ep
-    ∙ product_carries b.len (bit_xor a.sum start) (xor_lt 16 a.sum start small (lit< tt))))
+    ∙ product_carries b.len (bit_xor a.sum start) (xor_lt 16 a.sum start small (lit< tt)))
+    el)

@@ -1,11 +1,11 @@
 -- Joining the sums of parts: 01, "Joining" in "The message". Assumes nothing.
-use Rattle.std.specs.Prelude.{ℕ, zero, suc, ◌+◌, ◌/◌, ◌%◌, cond, List, [], ◌∷◌, ◌++◌, leb, length}
+use Rattle.std.specs.Prelude.{ℕ, zero, suc, ◌+◌, ◌/◌, ◌%◌, cond, List, [], ◌∷◌, ◌++◌, leb, length, Result, Ok, Err}
 use Rattle.std.proofs.Math.Option.{Option, none, some}
 use Rattle.std.specs.Int.Bits.{bit_xor}
 use Rattle.crc.specs.Sum.{start, gate, bit_steps, sum_of, carried}
 use Rattle.crc.specs.declared.Part.{Part}
-use Rattle.crc.specs.declared.Joined.{Joined}
-use Rattle.crc.specs.declared.Joined.TheVariants.{Whole, TooLong}
+use Rattle.crc.specs.declared.JoinError.{JoinError}
+use Rattle.crc.specs.declared.JoinError.TheVariants.{TooLong}
 
 -- The part that a list of bytes is.
 abbrev pub part_of : List ℕ → Part
@@ -40,10 +40,10 @@ with_part p = record { number = 0; part = some p }
 abbrev pub too_long : Joining
 too_long = record { number = 36; part = none }
 
--- What each case of the enum stands for in 01.
-abbrev pub joining_of : Joined → Joining
-joining_of (Whole p) = with_part p
-joining_of TooLong = too_long
+-- What each answer of `join` stands for in 01.
+abbrev pub joining_of : Result Part JoinError → Joining
+joining_of (Ok p) = with_part p
+joining_of (Err TooLong) = too_long
 
 -- Joining refuses only with 36, and then gives no part.
 unfoldable pub join_of : Part → Part → Joining

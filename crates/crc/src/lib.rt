@@ -6,7 +6,7 @@
 mod table;
 
 ghost use Rattle.std.specs.Prelude.{◌≡◌, ◌≤◌, length};
-ghost use Rattle.crc.specs.Sum.{gate, bit_step, bit_steps, byte_step, sum_from, sum_of, table_of};
+ghost use Rattle.crc.specs.Sum.{gate, bit_step, bit_steps, byte_step, sum_from, sum_of};
 ghost use Rattle.crc.specs.Joining.{joining_of, join_of, power_of, product};
 
 use folding::{CHUNK, reduce};
@@ -21,65 +21,47 @@ const POLYNOMIAL: u16 = 0x8408;
 // The power that shifts by nothing.
 const NO_SHIFT: u16 = 0x8000;
 
-// The largest length that a part can have.
-const LONGEST_PART: u32 = 0xffff_ffff;
-
-// A sum after one more byte. The table is lent, because a constant is copied whole where it is indexed.
-fn step(table: &[u16; 256], sum: u16, byte: u8) -> u16
-    requires { table.now ≡ table_of }
+// A sum after one more byte.
+fn step(sum: u16, byte: u8) -> u16
     ensures { result ≡ byte_step sum byte }
 {
-    let mixed = sum ^ (byte as u16);
-    let at = (mixed % 256) as usize;
-    table[at] ^ (mixed >> 8)
+    let mixed = sum ^ u16::from(byte);
+    TABLE[usize::from(mixed % 256)] ^ (mixed >> 8)
 }
 
 // A sum after two more bytes. The high byte of a sum only moves down, so both are mixed in at once; and of what the first
 // step makes, only the table's entry has a high byte left.
-fn step_two(table: &[u16; 256], sum: u16, low: u8, high: u8) -> u16
-    requires { table.now ≡ table_of }
+fn step_two(sum: u16, low: u8, high: u8) -> u16
     ensures { result ≡ byte_step (byte_step sum low) high }
 {
-    let mixed = sum ^ (low as u16 + 256 * (high as u16));
-    let at = (mixed % 256) as usize;
-    let first = table[at];
+    let mixed = sum ^ u16::from_le_bytes([low, high]);
+    let first = TABLE[usize::from(mixed % 256)];
     let next = first ^ (mixed >> 8);
-    let then = (next % 256) as usize;
-    table[then] ^ (first >> 8)
-}
-
-fn over(table: &[u16; 256], start: u16, bytes: &[u8]) -> u16
-    requires { table.now ≡ table_of }
-    ensures { result ≡ sum_from start bytes.now }
-{
-    let mut sum = start;
-    let mut i = 0;
-    let even = bytes.len() / 2 * 2;
-    while i < even {
-        sum = step_two(table, sum, bytes[i], bytes[i + 1]);
-        i += 2;
-    }
-    if i < bytes.len() {
-        return step(table, sum, bytes[i]);
-    }
-    sum
+    TABLE[usize::from(next % 256)] ^ (first >> 8)
 }
 
 // The sum of `bytes` that goes on from `start`, by the table.
 fn by_table(start: u16, bytes: &[u8]) -> u16
     ensures { result ≡ sum_from start bytes.now }
 {
-    let table = TABLE;
-    over(&table, start, bytes)
+    let mut sum = start;
+    let (pairs, last) = bytes.as_chunks::<2>();
+    for [low, high] in pairs {
+        sum = step_two(sum, *low, *high);
+    }
+    if let [byte] = last {
+        step(sum, *byte)
+    } else {
+        sum
+    }
 }
 
-// A sum after one more byte, with no table: for a few bytes shifts are cheaper than to copy one. `spread` has the eight
-// digits that fall out: one of the low four comes back on the one four above it. Each brings the polynomial's three digits
-// in, 8 and 3 places above its own and 4 below.
+// A sum after one more byte, with no table. `spread` has the eight digits that fall out: one of the low four comes back on
+// the one four above it. Each brings the polynomial's three digits in, 8 and 3 places above its own and 4 below.
 fn step_bare(sum: u16, byte: u8) -> u16
     ensures { result ≡ byte_step sum byte }
 {
-    let mixed = sum ^ (byte as u16);
+    let mixed = sum ^ u16::from(byte);
     let low = mixed % 256;
     let spread = low ^ (low * 16 % 256);
     (mixed >> 8) ^ ((spread * 256) ^ ((spread * 8) ^ (spread >> 4)))
@@ -90,10 +72,8 @@ fn few(bytes: &[u8]) -> u16
     ensures { result ≡ sum_from 0 bytes.now }
 {
     let mut sum = 0;
-    let mut i = 0;
-    while i < bytes.len() {
-        sum = step_bare(sum, bytes[i]);
-        i += 1;
+    for byte in bytes {
+        sum = step_bare(sum, *byte);
     }
     sum
 }
@@ -103,14 +83,8 @@ fn by_chunks(start: u16, bytes: &[u8]) -> u16
     requires { 64 ≤ length bytes.now }
     ensures { result ≡ sum_from start bytes.now }
 {
-    let whole = bytes.len() / CHUNK * CHUNK;
-    let standing = reduce(start, &bytes[0..whole]);
-    let chunks = few(&standing);
-    // Where nothing is left, the table need not be copied.
-    if bytes.len() <= whole {
-        return chunks;
-    }
-    by_table(chunks, &bytes[whole..])
+    let (whole, rest) = bytes.split_at(bytes.len() / CHUNK * CHUNK);
+    by_table(few(&reduce(start, whole)), rest)
 }
 
 // The sum of `bytes` that goes on from `start`.
@@ -118,21 +92,18 @@ pub fn sum_from(start: u16, bytes: &[u8]) -> u16
     ensures { result ≡ sum_from start bytes.now }
 {
     if bytes.len() < CHUNK {
-        return by_table(start, bytes);
+        by_table(start, bytes)
+    } else {
+        by_chunks(start, bytes)
     }
-    by_chunks(start, bytes)
 }
 
-// The sum of `bytes`. It could be `sum_from` of the start value; but `by_chunks`, called from two places, stays a function
-// of its own in the compiled code, and the sum of a short message then pushes no registers for it (20 instructions on
-// x86-64; the compiler's choice, no promise).
+// The sum of `bytes`.
+#[tactic(auto, unfolding(crate::specs::Sum::sum_of))]
 pub fn sum(bytes: &[u8]) -> u16
     ensures { result ≡ sum_of bytes.now }
 {
-    if bytes.len() < CHUNK {
-        return by_table(START, bytes);
-    }
-    by_chunks(START, bytes)
+    sum_from(START, bytes)
 }
 
 // A stretch of bytes by its sum and its length alone.
@@ -142,10 +113,9 @@ pub struct Part {
     pub len: u32,
 }
 
-// What joining answers: the two parts as one, or that no part is so long.
-#[derive(Clone, Copy)]
-pub enum Joined {
-    Whole(Part),
+// Why two parts are not joined: no part is so long as both are together.
+#[derive(Clone, Copy, PartialEq, Eq)]
+pub enum JoinError {
     TooLong,
 }
 
@@ -156,6 +126,7 @@ fn gated(value: u16, digit: u16) -> u16
     if digit == 1 { value } else { 0 }
 }
 
+#[tactic(auto, unfolding(crate::specs::Sum::bit_step))]
 fn bit_step(sum: u16) -> u16
     ensures { result ≡ bit_step sum }
 {
@@ -167,10 +138,8 @@ fn byte_shift(sum: u16) -> u16
     ensures { result ≡ bit_steps 8 sum }
 {
     let mut shifted = sum;
-    let mut left: usize = 8;
-    while 0 < left {
+    for _ in 0..u8::BITS {
         shifted = bit_step(shifted);
-        left -= 1;
     }
     shifted
 }
@@ -181,11 +150,9 @@ fn carry(sum: u16, power: u16) -> u16
 {
     let mut carried = 0;
     let mut digits = power;
-    let mut left: usize = 16;
-    while 0 < left {
+    for _ in 0..u16::BITS {
         carried = bit_step(carried) ^ gated(sum, digits % 2);
-        digits = digits / 2;
-        left -= 1;
+        digits /= 2;
     }
     carried
 }
@@ -207,16 +174,13 @@ fn power(n: u32) -> u16
 }
 
 // Two parts, one after the other, as one.
-pub fn join(a: Part, b: Part) -> Joined
+pub fn join(a: Part, b: Part) -> Result<Part, JoinError>
     ensures { joining_of result ≡ join_of a b }
 {
-    let room = LONGEST_PART - a.len;
-    if room < b.len {
-        return Joined::TooLong;
-    }
+    let len = a.len.checked_add(b.len).ok_or(JoinError::TooLong)?;
     let carried = carry(a.sum ^ START, power(b.len));
-    Joined::Whole(Part {
+    Ok(Part {
         sum: carried ^ b.sum,
-        len: a.len + b.len,
+        len,
     })
 }

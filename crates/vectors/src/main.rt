@@ -2,13 +2,34 @@
 // and gives what came, what should come, and whether they agree.
 #![tactic(auto)]
 
-use crc::{Joined, Part};
+use crc::{JoinError, Part};
 use std::fmt::Display;
 use std::io;
 
+const NEUTRAL: Part = Part {
+    sum: 0xffff,
+    len: 0,
+};
+
+// The part that is 123456789.
+const CHECK: Part = Part {
+    sum: 0x6f91,
+    len: 9,
+};
+
+const FF: Part = Part {
+    sum: 0x00ff,
+    len: 1,
+};
+
+const LONGEST: Part = Part {
+    sum: 0x1234,
+    len: 0xffff_ffff,
+};
+
 // One bit of the fragment of ICD 10.8, as it stands there.
 fn one_bit(sum: u16, byte: u8) -> u16 {
-    let mixed = sum ^ (byte as u16);
+    let mixed = sum ^ u16::from(byte);
     if mixed % 2 == 1 {
         (sum / 2) ^ 0x8408
     } else {
@@ -19,9 +40,9 @@ fn one_bit(sum: u16, byte: u8) -> u16 {
 fn one_byte(sum: u16, byte: u8) -> u16 {
     let mut fed = sum;
     let mut rest = byte;
-    for _ in 0..8 {
+    for _ in 0..u8::BITS {
         fed = one_bit(fed, rest);
-        rest = rest / 2;
+        rest /= 2;
     }
     fed
 }
@@ -40,8 +61,8 @@ fn pattern(place: usize) -> u8 {
 }
 
 fn fill(bytes: &mut [u8]) {
-    for i in 0..bytes.len() {
-        bytes[i] = pattern(i);
+    for (i, byte) in bytes.iter_mut().enumerate() {
+        *byte = pattern(i);
     }
 }
 
@@ -61,19 +82,18 @@ fn numbers(
 }
 
 fn vector(rt: &impl Print, name: &str, bytes: &[u8], due: u16) -> io::Result<()> {
-    numbers(rt, name, crc::sum(bytes) as u64, due as u64, 4)
+    numbers(rt, name, u64::from(crc::sum(bytes)), u64::from(due), 4)
 }
 
 // The answer, the sum and the length as one number, so that one line compares all three.
 fn shown(answer: u16, sum: u16, len: u32) -> u64 {
-    (answer as u64 * 65536 + sum as u64) * 0x1_0000_0000 + len as u64
+    (u64::from(answer) * 65536 + u64::from(sum)) * 0x1_0000_0000 + u64::from(len)
 }
 
 fn joined(a: Part, b: Part) -> u64 {
-    let answer = crc::join(a, b);
-    match answer {
-        Joined::Whole(p) => shown(0, p.sum, p.len),
-        Joined::TooLong => shown(36, 0, 0),
+    match crc::join(a, b) {
+        Ok(p) => shown(0, p.sum, p.len),
+        Err(JoinError::TooLong) => shown(36, 0, 0),
     }
 }
 
@@ -87,8 +107,8 @@ fn long(rt: &impl Print, bytes: &[u8]) -> io::Result<()> {
     numbers(
         rt,
         name,
-        crc::sum(bytes) as u64,
-        bit_by_bit(bytes) as u64,
+        u64::from(crc::sum(bytes)),
+        u64::from(bit_by_bit(bytes)),
         4,
     )
 }
@@ -101,51 +121,23 @@ fn sums(rt: &impl Print) -> io::Result<()> {
     vector(rt, "P4", b"\x00", 0x0f87)?;
     vector(rt, "P5", b"\x41\x11\x80", 0x6dd8)?;
     let came = crc::sum_from(crc::sum(b"1234"), b"56789");
-    numbers(rt, "1234 then 56789", came as u64, 0x6f91, 4)
-}
-
-fn neutral() -> Part {
-    Part {
-        sum: 0xffff,
-        len: 0,
-    }
-}
-
-fn check() -> Part {
-    Part {
-        sum: 0x6f91,
-        len: 9,
-    }
-}
-
-fn ff() -> Part {
-    Part {
-        sum: 0x00ff,
-        len: 1,
-    }
-}
-
-fn longest() -> Part {
-    Part {
-        sum: 0x1234,
-        len: 0xffff_ffff,
-    }
+    numbers(rt, "1234 then 56789", u64::from(came), 0x6f91, 4)
 }
 
 fn joins(rt: &impl Print) -> io::Result<()> {
     let whole = shown(0, 0x6f91, 9);
-    join_vector(rt, "P8", ff(), ff(), shown(0, 0x0000, 2))?;
-    join_vector(rt, "neutral first", neutral(), check(), whole)?;
-    join_vector(rt, "neutral second", check(), neutral(), whole)?;
+    join_vector(rt, "P8", FF, FF, shown(0, 0x0000, 2))?;
+    join_vector(rt, "neutral first", NEUTRAL, CHECK, whole)?;
+    join_vector(rt, "neutral second", CHECK, NEUTRAL, whole)?;
     let most = shown(0, 0x1234, 0xffff_ffff);
-    join_vector(rt, "longest and neutral", longest(), neutral(), most)?;
-    join_vector(rt, "longest and one byte", longest(), ff(), shown(36, 0, 0))
+    join_vector(rt, "longest and neutral", LONGEST, NEUTRAL, most)?;
+    join_vector(rt, "longest and one byte", LONGEST, FF, shown(36, 0, 0))
 }
 
 fn main(rt: HostRuntime) -> io::Result<()> {
     sums(&rt)?;
     joins(&rt)?;
-    let mut bytes = [0u8; 65536];
+    let mut bytes = [0; 65536];
     fill(&mut bytes);
     long(&rt, &bytes[0..1])?;
     long(&rt, &bytes[0..255])?;

@@ -1,14 +1,12 @@
--- `crc::byte_shift` meets its contract. The invariant: the steps that are left bring the sum to where eight bring it.
--- Assumes nothing.
-use mathlib.Core.Path.{refl, ◌∙◌}
-use Rattle.crc.proofs.Turns.{steps_turn, steps_end}
+-- `crc::byte_shift` meets its contract. The invariant: the steps so far have been taken. Assumes nothing.
+use mathlib.Core.Path.{refl}
+use Rattle.crc.specs.Sum.{bit_steps}
+use Rattle.crc.proofs.Turns.{steps_turn}
 use Rattle.crc.proofs.byte_shift.Goals as goal
 
-pub loop-left-init : goal.loop-left-init
-loop-left-init c = refl
+pub loop-init : goal.loop-init
+unfolding bit_steps
+loop-init c = refl
 
-pub loop-left-preserved : goal.loop-left-preserved
-loop-left-preserved c = steps_turn _ _ _ c.loop-left-test.true c.bit_step-shifted.ensures ∙ c.loop-left.invariant
-
-pub returns : goal.returns
-returns c = steps_end _ _ c.loop-left-test.false ∙ c.loop-left.invariant
+pub loop-preserved : goal.loop-preserved
+loop-preserved c = steps_turn _ _ _ _ c.loop.invariant c.bit_step-shifted.ensures

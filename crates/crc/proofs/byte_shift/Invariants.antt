@@ -1,11 +1,7 @@
--- `crc::byte_shift` meets its contract. The invariant: the steps that are left bring the sum to where eight bring it.
--- Assumes nothing.
+-- `crc::byte_shift` meets its contract. The invariant: the steps so far have been taken. Assumes nothing.
 use mathlib.Core.Path.{◌≡◌}
 use Rattle.crc.specs.Sum.{bit_steps}
 use Rattle.crc.proofs.byte_shift.Given as goal
 
-abbrev pub invariant-loop-left : goal.invariant-loop-left
-invariant-loop-left l = bit_steps l.left l.shifted ≡ bit_steps 8 l.sum
-
-abbrev pub decreases-loop-left : goal.decreases-loop-left
-decreases-loop-left l = l.left
+abbrev pub invariant-loop : goal.invariant-loop
+invariant-loop l = l.shifted ≡ bit_steps l.counter l.sum

@@ -6,4 +6,4 @@ use Rattle.crc.proofs.step.Goals as goal
 
 pub returns : goal.returns
 unfolding byte_step
-returns c = by_the_table _ (bit_xor c.args.sum c.args.byte) c.requires
+returns c = rw (c.from-2.ensures, c.from.ensures) (by_the_table (bit_xor c.args.sum c.args.byte))

@@ -6,11 +6,11 @@ use Rattle.crc.proofs.ByteSteps.{without_the_table, spread_below}
 use Rattle.crc.proofs.step_bare.Goals as goal
 
 pub overflow_mul-result : goal.overflow_mul-result
-overflow_mul-result c = omega (arith, spread_below (bit_xor c.args.sum c.args.byte))
+overflow_mul-result c = omega (arith, spread_below (bit_xor c.args.sum c.from.result))
 
 pub overflow_mul-result-2 : goal.overflow_mul-result-2
-overflow_mul-result-2 c = omega (arith, spread_below (bit_xor c.args.sum c.args.byte))
+overflow_mul-result-2 c = omega (arith, spread_below (bit_xor c.args.sum c.from.result))
 
 pub returns : goal.returns
 unfolding byte_step
-returns c = without_the_table (bit_xor c.args.sum c.args.byte)
+returns c = rw c.from.ensures (without_the_table (bit_xor c.args.sum c.args.byte))
