@@ -24,12 +24,14 @@ a_file_is_shown_in_its_size edac (suc n) size small = ap suc (length_of_a_stretc
 
 -- ---- showing
 
-pub show_file_0 : (edac reply : List ℕ) (at file : ℕ) → file ≡ 0 → at + 1 < length reply
-    → stored (set (set reply at file) (at + 1) (get_or edac mode_place 0)) (at + 2) (stretch 0 4 edac) ≡ stored reply at (file_shown edac file)
+pub show_file_0 : (edac reply : List ℕ) (at file start : ℕ) → file ≡ 0 → at + 1 < length reply → start ≡ byte_address file
+    → stored (set (set reply at file) (at + 1) (get_or edac mode_place 0)) (at + 2) (take (start + 4 - start) (drop start edac))
+    ≡ stored reply at (file_shown edac file)
 unfolding file_shown
-show_file_0 edac reply at file e fits =
+show_file_0 edac reply at file start e fits from =
     let next : at + 2 ≡ at + 1 + 1 = omega arith in
-    rw (e, next)
+    let first : start ≡ 0 = omega arith in
+    rw (e, next, first)
     (a_byte_then_a_store (set reply at 0) (at + 1) (get_or edac mode_place 0) (stretch 0 4 edac) (rw length-set fits)
     ∙ a_byte_then_a_store reply at 0 (get_or edac mode_place 0 ∷ stretch 0 4 edac) (omega arith))
 

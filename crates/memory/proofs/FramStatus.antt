@@ -1,26 +1,16 @@
--- The FRAM status: the way through the code, and what a write of it changes. Assumes nothing.
-use mathlib.Core.Path.{◌≡◌, sym, ap}
+-- The FRAM status: what a write of it changes. Assumes nothing.
+use mathlib.Core.Path.{◌≡◌}
 use mathlib.Core.Bool.{Bool, true, false}
 use mathlib.Core.List.{List}
-use Prim.Native.Nat.{ℕ, ◌+◌, ◌*◌, ◌/◌, ◌%◌, ◌≤◌, ◌<◌}
+use Prim.Native.Nat.{ℕ, ◌+◌, ◌*◌, ◌/◌, ◌%◌, ◌<◌}
 use native.Mathlib.Omega.{arith}
-use lib.ListN.{length, get_or, set, length-set}
-use lib.Seq.{set_out, get_or-set_same, get_or-set_other}
+use lib.ListN.{length, get_or, length-set}
+use lib.Seq.{get_or-set_same, get_or-set_other}
 use Rattle.memory.specs.Status.{fram_status, status_byte, status_written}
 
 pub the_status_is_a_byte : (locked : Bool) → status_byte locked < 256
 the_status_is_a_byte true = omega arith
 the_status_is_a_byte false = omega arith
-
-pub no_status : (locked : Bool) (diagnostics : List ℕ) → length diagnostics ≤ fram_status → diagnostics ≡ status_written locked diagnostics
-unfolding status_written
-no_status locked diagnostics past =
-    sym (set_out diagnostics fram_status (get_or diagnostics fram_status 0 / 256 * 256 + status_byte locked) past)
-
-pub the_status_is_written : (locked : Bool) (diagnostics : List ℕ) (byte : ℕ) → byte ≡ status_byte locked
-    → set diagnostics fram_status (get_or diagnostics fram_status 0 / 256 * 256 + byte) ≡ status_written locked diagnostics
-unfolding status_written
-the_status_is_written locked diagnostics byte e = ap (λ (n : ℕ). set diagnostics fram_status (get_or diagnostics fram_status 0 / 256 * 256 + n)) e
 
 -- The low byte of 0x06 is what was written, its other bytes are what they were, and no other diagnostic moves.
 pub what_a_status_writes : (locked : Bool) (diagnostics : List ℕ) → fram_status < length diagnostics

@@ -6,7 +6,7 @@ use native.Mathlib.Nat.{le_antisymm}
 use native.Mathlib.Numerals.{add-one}
 use native.Mathlib.Omega.{arith}
 use lib.ListN.{length, take, drop, set, get_or}
-use lib.Seq.{paste, paste-suc, length-paste, take-length}
+use lib.Seq.{paste, paste-suc, take-length}
 use Rattle.memory.specs.Bytes.{stored}
 
 -- ---- a copy: `paste` has the first i bytes in place
@@ -18,10 +18,6 @@ copy_turn held₀ at bytes i held fits h e =
     ∙ paste-suc held₀ at bytes i 0 (omega arith) h
     ∙ ap (paste held₀ at bytes) (sym (add-one i))
 
-pub copy_length : (held₀ : List ℕ) (at : ℕ) (bytes : List ℕ) (i : ℕ) (held : List ℕ) → at + length bytes ≤ length held₀ → i ≤ length bytes
-    → held ≡ paste held₀ at bytes i → length held ≡ length held₀
-copy_length held₀ at bytes i held fits h e = ap length e ∙ length-paste held₀ at bytes i (omega arith) h
-
 pub copy_end : (held₀ : List ℕ) (at : ℕ) (bytes : List ℕ) (i : ℕ) (held : List ℕ) → i ≤ length bytes → length bytes ≤ i
     → held ≡ paste held₀ at bytes i → held ≡ stored held₀ at bytes
 unfolding stored
@@ -29,5 +25,3 @@ copy_end held₀ at bytes i held h k e =
     e
     ∙ ap (paste held₀ at bytes) (le_antisymm h k)
     ∙ ap (λ b. take at held₀ ++ b ++ drop (at + length bytes) held₀) (take-length bytes)
-
--- ---- refreshing: the sums up to block k are as they shall be, and those from it on are as they were

@@ -1,5 +1,5 @@
-// Copies between lent buffers, and the lesser of two numbers, as far as a part of one reaches.
-ghost use Rattle.std.specs.Prelude.{◌≡◌, ◌+◌, ◌≤◌, min, length};
+// Copies between lent buffers.
+ghost use Rattle.std.specs.Prelude.{◌≡◌, ◌+◌, ◌≤◌, length};
 ghost use Rattle.memory.specs.Bytes.{stored};
 
 // Stores `bytes` in `held` from `at` on.
@@ -7,15 +7,8 @@ pub fn put(bytes: &[u8], held: &mut [u8], at: usize)
     requires { at + length bytes.now ≤ length held.old }
     ensures { held.new ≡ stored held.old at bytes.now }
 {
-    let mut i = 0;
-    while i < bytes.len() {
-        held[at + i] = bytes[i];
-        i += 1;
+    // `copy_from_slice` compares addresses as numbers, which no other processor's archive may (tools/module)
+    for (i, byte) in bytes.iter().enumerate() {
+        held[at + i] = *byte;
     }
-}
-
-pub fn lesser(a: usize, b: usize) -> usize
-    ensures { result ≡ min a b }
-{
-    if a < b { a } else { b }
 }

@@ -19,23 +19,22 @@ pub struct FileAddress(pub u8);
 #[derive(Clone, Copy)]
 pub struct EdacAddress(pub u16);
 
-impl FileAddress {
-    // The address of the file's first byte.
-    pub fn bytes(self) -> EdacAddress
-        ensures { result.0 ≡ byte_address self.0 }
-    {
-        EdacAddress(4 * (self.0 as u16))
+// The address of the file's first byte.
+impl From<FileAddress> for EdacAddress {
+    ghost from_gives = { λ file at. at.0 ≡ byte_address file.0 };
+
+    fn from(file: FileAddress) -> EdacAddress {
+        EdacAddress(4 * u16::from(file.0))
     }
 }
 
-// Whether a range of `count` bytes lies in EDAC memory.
-pub fn holds(at: EdacAddress, count: usize) -> bool
-    ensures { result ≡ inside_edac at.0 count }
-{
-    if EDAC_SIZE < count {
-        return false;
+impl EdacAddress {
+    // Whether a range of `count` bytes from here on lies in EDAC memory.
+    pub fn holds(self, count: usize) -> bool
+        ensures { result ≡ inside_edac self.0 count }
+    {
+        count <= EDAC_SIZE && usize::from(self.0) <= EDAC_SIZE - count
     }
-    (at.0 as usize) <= EDAC_SIZE - count
 }
 
 // Writes what a reply shows of a file from `at` on, and answers the place after it.
@@ -43,15 +42,15 @@ pub fn show_file(edac: &[u8], file: FileAddress, reply: &mut [u8], at: usize) ->
     requires { (length edac.now ≡ edac_size) × (at + shown_size file.0 ≤ length reply.old) }
     ensures { (result ≡ at + shown_size file.0) × (reply.new ≡ stored reply.old at (file_shown edac.now file.0)) }
 {
+    let start = usize::from(EdacAddress::from(file).0);
+    let bytes = &edac[start..start + 4];
     reply[at] = file.0;
     if file.0 == 0 {
         reply[at + 1] = edac[MODE];
-        put(&edac[0..4], reply, at + 2);
-        return at + 6;
+        put(bytes, reply, at + 2);
+        at + 6
+    } else {
+        put(bytes, reply, at + 1);
+        at + 5
     }
-    let start = file.bytes();
-    let from = start.0 as usize;
-    let to = from + 4;
-    put(&edac[from..to], reply, at + 1);
-    at + 5
 }

@@ -16,12 +16,12 @@ fn status_byte(locked: bool) -> u32
 }
 
 // Writes the low byte of the FRAM status; its other bytes stay. Where there is no such diagnostic nothing changes.
+#[tactic(auto, unfolding(crate::specs::Status::status_written))]
 pub fn write_status(diagnostics: &mut [u32], locked: bool)
     ensures { diagnostics.new ≡ status_written locked diagnostics.old }
 {
-    if diagnostics.len() <= FRAM_STATUS {
-        return;
+    // of what `get_mut` leaves in a slice std says nothing
+    if FRAM_STATUS < diagnostics.len() {
+        diagnostics[FRAM_STATUS] = diagnostics[FRAM_STATUS] / 256 * 256 + status_byte(locked);
     }
-    let status = diagnostics[FRAM_STATUS];
-    diagnostics[FRAM_STATUS] = status / 256 * 256 + status_byte(locked);
 }

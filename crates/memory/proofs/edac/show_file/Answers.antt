@@ -1,5 +1,6 @@
 -- `memory::edac::show_file` meets its contract, by one law for file 0 and one for any other. Assumes nothing.
 use mathlib.Core.Path.{◌∙◌}
+use borrow.Author.Rules.{rules}
 use native.Mathlib.Omega.{arith}
 use lib.ListN.{length-set, length-take, length-drop}
 use Rattle.memory.proofs.Files.{size_of_file_0, size_of_another, show_file_0, show_another}
@@ -16,16 +17,16 @@ pub returns-then-file-eq0 : goal.returns-then-file-eq0
 returns-then-file-eq0 c =
     let size = size_of_file_0 _ c.if-file-eq0.true in (
       omega (arith, size),
-      c.put.ensures ∙ show_file_0 _ _ _ _ c.if-file-eq0.true (omega (arith, size)),
+      c.put.ensures ∙ show_file_0 _ _ _ _ c.from-start.result c.if-file-eq0.true (omega (arith, size)) (search rules),
     )
 
-pub put-requires-2 : goal.put-requires-2
-put-requires-2 c =
+pub put-requires-else-file-eq0 : goal.put-requires-else-file-eq0
+put-requires-else-file-eq0 c =
     simp (length-set, length-take, length-drop) (omega (arith, size_of_another _ c.if-file-eq0.false))
 
-pub returns : goal.returns
-returns c =
+pub returns-else-file-eq0 : goal.returns-else-file-eq0
+returns-else-file-eq0 c =
     let size = size_of_another _ c.if-file-eq0.false in (
       omega (arith, size),
-      c.put-2.ensures ∙ show_another _ _ _ _ _ c.if-file-eq0.false (omega (arith, size)) c.bytes-start.ensures,
+      c.put-else-file-eq0.ensures ∙ show_another _ _ _ _ c.from-start.result c.if-file-eq0.false (omega (arith, size)) (search rules),
     )
