@@ -2,48 +2,19 @@
 -- the end.
 -- Assumes nothing.
 use Prim.Native.Nat.{ℕ, suc, ◌+◌, ◌<◌, ◌≤◌}
-use mathlib.Core.Path.{◌≡◌, refl, sym, ◌∙◌, ap}
+use mathlib.Core.Path.{◌≡◌, sym, ◌∙◌, ap}
 use mathlib.Core.List.{List, [], ◌∷◌, ◌++◌, append_assoc}
 use native.Mathlib.Numerals.{add-one}
 use native.Mathlib.Omega.{arith}
 use borrow.Author.Tests.{lt-ltb, le-ltb}
-use lib.ListN.{length, get_or, set, drop, length-append, length-set, drop_of_length-le}
+use Rattle.std.proofs.Common.{Ok, Err}
+use lib.ListN.{length, get_or, set, drop, length-append, drop_of_length-le}
 use lib.Seq.{sets, length-sets, drop-cons}
 use Rattle.line.specs.Framing.{fend}
 use Rattle.line.specs.Packing.{escaped_of, body_of, packed_of, shortest_message, message_size, reply_size, packing_of, pack_of}
-use Rattle.line.specs.declared.packing.Packed.TheVariants.{Sent, ShortReply, BadLength}
+use Rattle.line.specs.declared.packing.PackError.TheVariants.{ShortReply, BadLength}
 use Rattle.line.proofs.Stores.{stores_follow_stores, stores_from_the_start}
 use Rattle.line.proofs.Escaping.{an_escaped_byte_is_one_or_two, the_room_is_enough_for_the_longest}
-
--- one byte of the message, at `at`: what stands in the reply buffer, and where its last byte goes, once all before the last is written
-pub record Begun (byte at : ℕ) (start reply : List ℕ) (place last : ℕ) : Type 0 where
-  pub near : place ≤ at + 1
-  pub long : length reply ≡ length start
-  pub next : place + 1 ≡ at + length (escaped_of byte)
-  pub left : set reply place last ≡ sets start at (escaped_of byte)
-
-module _ (byte at : ℕ) (start reply : List ℕ) (place last : ℕ) where
-  pub an_escape_is_begun
-      : (a b : ℕ)
-      → escaped_of byte ≡ a ∷ b ∷ []
-      → reply ≡ set start at a
-      → last ≡ b
-      → place ≡ at + 1
-      → Begun byte at start reply place last
-  an_escape_is_begun a b e r l p = record {
-    near = omega (arith, p);
-    long = rw (r, length-set);
-    next = omega (arith, p, ap length e);
-    left = rw (r, l, p, e, add-one);
-  }
-
-  pub a_byte_is_begun
-      : escaped_of byte ≡ byte ∷ []
-      → reply ≡ start
-      → last ≡ byte
-      → place ≡ at
-      → Begun byte at start reply place last
-  a_byte_is_begun e r l p = record { near = omega (arith, p); long = rw r; next = omega (arith, p, ap length e); left = rw (r, l, p, e) }
 
 -- what is still to be written when `i` bytes of the message are
 abbrev pub left_of : List ℕ → ℕ → List ℕ
@@ -55,9 +26,6 @@ pub record Laid (message start reply : List ℕ) (at i : ℕ) : Type 0 where
   pub long : length reply ≡ length start
   pub place : at + length (left_of message i) ≡ length (packed_of message)
   pub left : sets reply at (left_of message i) ≡ sets start 1 (left_of message 0)
-
-pub nothing_is_laid_at_first : (message start : List ℕ) → Laid message start start 1 0
-nothing_is_laid_at_first message start = record { within = omega arith; long = refl; place = omega arith; left = refl }
 
 next_of
     : (message : List ℕ) (i : ℕ) → i < length message → left_of message i ≡ escaped_of (get_or message i 0) ++ left_of message (i + 1)
@@ -117,17 +85,17 @@ module _ (message start reply : List ℕ) (at i : ℕ) (laid : Laid message star
 
 -- the answers of packing alone, in the order of the tests
 module _ (message reply : List ℕ) where
-  pub a_short_reply_buffer_is_refused : length reply < reply_size → packing_of ShortReply reply ≡ pack_of message reply
+  pub a_short_reply_buffer_is_refused : length reply < reply_size → packing_of (Err ShortReply) reply ≡ pack_of message reply
   unfolding pack_of
   a_short_reply_buffer_is_refused r = rw (lt-ltb (length reply) reply_size r)
 
   module _ (roomy : reply_size ≤ length reply) where
-    pub a_short_message_is_refused : length message < shortest_message → packing_of BadLength reply ≡ pack_of message reply
+    pub a_short_message_is_refused : length message < shortest_message → packing_of (Err BadLength) reply ≡ pack_of message reply
     unfolding pack_of
     a_short_message_is_refused s = rw (le-ltb (length reply) reply_size roomy, lt-ltb (length message) shortest_message s)
 
     module _ (long_enough : shortest_message ≤ length message) where
-      pub a_long_message_is_refused : message_size < length message → packing_of BadLength reply ≡ pack_of message reply
+      pub a_long_message_is_refused : message_size < length message → packing_of (Err BadLength) reply ≡ pack_of message reply
       unfolding pack_of
       a_long_message_is_refused l =
           rw (le-ltb (length reply) reply_size roomy, le-ltb (length message) shortest_message long_enough, lt-ltb message_size (length message) l)
@@ -144,7 +112,7 @@ module _ (message reply : List ℕ) where
             : (n : ℕ) (written : List ℕ)
             → n ≡ length (packed_of message)
             → written ≡ sets reply 0 (packed_of message)
-            → packing_of (Sent n) written ≡ pack_of message reply
+            → packing_of (Ok n) written ≡ pack_of message reply
         a_laid_message_is_sent n written e w =
             let fits : length (packed_of message) ≤ length reply =
             omega (arith, the_room_is_enough_for_the_longest message short_enough)

@@ -1,38 +1,16 @@
 -- One law for each way through the receiver's functions: what was tested on the way gives the case of the definition.
 -- Assumes nothing.
 use Prim.Native.Nat.{ℕ, ◌+◌, ◌<◌, ◌≤◌}
-use mathlib.Core.Path.{◌≡◌, ◌∙◌, ap}
-use mathlib.Core.Logic.{⊎_elim}
+use mathlib.Core.Path.{◌≡◌}
 use mathlib.Core.List.{List}
-use borrow.Author.Tests.{eq-eqb, ne_eqb, lt-ltb, le-ltb, le-leb, lt-leb}
-use lib.ListN.{length, set}
-use lib.Seq.{set_out}
+use borrow.Author.Tests.{ne_eqb, lt-ltb, le-ltb, le-leb, lt-leb}
+use lib.ListN.{set}
 use Rattle.line.specs.Framing.{fend, fesc, tfend, tfesc}
-use Rattle.line.specs.Receiver.{
-  Reception,
-  reception_of,
-  opened,
-  taken_of,
-  closed_of,
-  stored_of,
-  counted_of,
-  unpacked_of,
-  after_escape_of,
-  inside_of,
-  receive_of,
-}
+use Rattle.line.specs.Receiver.{Reception, reception_of, taken_of, closed_of, stored_of, counted_of, unpacked_of, after_escape_of, inside_of, receive_of}
 use Rattle.line.specs.declared.receiver.Place.{Place}
 use Rattle.line.specs.declared.receiver.Place.TheVariants.{Fresh, Run, Escape, Fault}
-use Rattle.line.specs.declared.receiver.Heard.{Heard}
-use Rattle.line.specs.declared.receiver.Heard.TheVariants.{Empty, Message}
+use Rattle.line.specs.declared.receiver.Heard.TheVariants.{Message}
 use Rattle.line.specs.declared.receiver.Receiver.{Receiver}
-use Rattle.line.specs.declared.receiver.Received.{Received}
-use Rattle.line.proofs.Cases.{below_or_not}
-
--- what a FEND closes
-pub a_run_of_no_byte_is_empty : (place : Place) (count : ℕ) → place ≡ Run → count ≡ 0 → Empty ≡ closed_of place count
-unfolding closed_of
-a_run_of_no_byte_is_empty place count p z = rw (p, eq-eqb count 0 z)
 
 pub a_run_with_bytes_is_to_be_judged
     : (place : Place) (count : ℕ)
@@ -52,13 +30,6 @@ module _ (largest count byte : ℕ) (message : List ℕ) where
   unfolding stored_of
   from_the_largest_on_nothing_is_stored h = rw (le-ltb count largest h)
 
-  pub past_the_buffer_nothing_is_stored : length message ≤ count → stored_of largest count byte message ≡ message
-  past_the_buffer_nothing_is_stored h =
-      ⊎_elim
-      (λ l. below_the_largest_a_byte_is_stored l ∙ set_out message count byte h)
-      from_the_largest_on_nothing_is_stored
-      (below_or_not count largest)
-
 module _ (largest count : ℕ) where
   pub up_to_the_largest_the_count_rises : count ≤ largest → counted_of largest count ≡ count + 1
   unfolding counted_of
@@ -67,19 +38,6 @@ module _ (largest count : ℕ) where
   pub past_the_largest_the_count_stays : largest < count → counted_of largest count ≡ count
   unfolding counted_of
   past_the_largest_the_count_stays h = rw (lt-leb count largest h)
-
--- the buffer is left as it came
-pub with_nothing_stored : {r s : Received} (message : List ℕ) → r ≡ s → reception_of r message ≡ reception_of s message
-with_nothing_stored message e = ap (λ (r : Received). reception_of r message) e
-
--- an unpacked byte, put together from what the callees say
-pub unpacking_is_storing_and_counting
-    : (largest count byte counted : ℕ) (message stored : List ℕ) (r : Received)
-    → stored ≡ stored_of largest count byte message
-    → counted ≡ counted_of largest count
-    → r ≡ taken_of Run counted
-    → reception_of r stored ≡ unpacked_of largest count byte message
-unpacking_is_storing_and_counting largest count byte counted message stored r s n e = cc
 
 -- the byte after FESC; `o` is what the callee leaves
 module _ (largest count byte : ℕ) (message : List ℕ) (o : Reception) where
@@ -104,14 +62,6 @@ module _ (largest count byte : ℕ) (message : List ℕ) (o : Reception) where
 
 -- any byte; `o` is what the callee leaves
 module _ (largest : ℕ) (receiver : Receiver) (byte : ℕ) (message : List ℕ) where
-  pub a_fend_closes
-      : (heard : Heard)
-      → byte ≡ fend
-      → heard ≡ closed_of receiver.place receiver.count
-      → record { receiver = opened; heard = heard; message = message } ≡ receive_of largest receiver byte message
-  unfolding receive_of
-  a_fend_closes heard b e = rw (b, e)
-
   module _ (o : Reception) (b : byte ≡ fend → ⊥) where
     inside : o ≡ inside_of largest receiver.place receiver.count byte message → o ≡ receive_of largest receiver byte message
     unfolding receive_of

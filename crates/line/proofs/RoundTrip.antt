@@ -16,7 +16,8 @@ use Rattle.line.specs.Packing.{escaped_of, body_of, packed_of, shortest_message,
 use Rattle.line.specs.Delivery.{delivered_of}
 use Rattle.line.specs.declared.receiver.Heard.TheVariants.{Taken, Message}
 use Rattle.line.specs.declared.receiver.Receiver.{Receiver}
-use Rattle.line.specs.declared.packing.Packed.{Packed}
+use Rattle.std.proofs.Common.{Result}
+use Rattle.line.specs.declared.packing.PackError.{PackError}
 use Rattle.line.proofs.Escaping.{a_byte_is_escaped_in_one_of_three_ways}
 use Rattle.line.proofs.Laying.{a_message_of_legal_length_is_packed}
 use Rattle.line.proofs.Runs.{
@@ -97,7 +98,7 @@ module _
     (long_enough : shortest_message ≤ length message)
     (short_enough : length message ≤ message_size)
     (roomy : reply_size ≤ length reply)
-    (packed : Packed)
+    (packed : Result ℕ PackError)
     (written : List ℕ)
     (allowed : packing_of packed written ≡ pack_of message reply)
   where

@@ -9,8 +9,9 @@ use Rattle.line.specs.Receiver.{Reception, reception_of, receive_of}
 use Rattle.line.specs.Packing.{Packing, packing_of, pack_of, pack_number_of, pack_sent_of}
 use Rattle.line.specs.declared.receiver.Receiver.{Receiver}
 use Rattle.line.specs.declared.receiver.Received.{Received}
-use Rattle.line.specs.declared.packing.Packed.{Packed}
-use Rattle.line.specs.declared.packing.Packed.TheVariants.{Sent, ShortReply, BadLength}
+use Rattle.std.proofs.Common.{Result, Ok, Err}
+use Rattle.line.specs.declared.packing.PackError.{PackError}
+use Rattle.line.specs.declared.packing.PackError.TheVariants.{ShortReply, BadLength}
 
 pub receive_allows_one_outcome
     : (largest : ℕ) (receiver : Receiver) (byte : ℕ) (message : List ℕ) (r s : Received) (l m : List ℕ)
@@ -21,20 +22,20 @@ receive_allows_one_outcome largest receiver byte message r s l m a b =
     let same = a ∙ sym b in
     (ap (λ (o : Reception). record { receiver = o.receiver; heard = o.heard }) same, ap (λ (o : Reception). o.message) same)
 
--- number and bytes sent tell the cases of `Packed` apart
-one_case : (r s : Packed) → pack_number_of r ≡ pack_number_of s → pack_sent_of r ≡ pack_sent_of s → r ≡ s
-one_case (Sent m) (Sent n) a b = ap Sent b
-one_case (Sent m) ShortReply a b = absurd (omega (arith, a))
-one_case (Sent m) BadLength a b = absurd (omega (arith, a))
-one_case ShortReply (Sent n) a b = absurd (omega (arith, a))
-one_case ShortReply ShortReply a b = refl
-one_case ShortReply BadLength a b = absurd (omega (arith, a))
-one_case BadLength (Sent n) a b = absurd (omega (arith, a))
-one_case BadLength ShortReply a b = absurd (omega (arith, a))
-one_case BadLength BadLength a b = refl
+-- number and bytes sent tell the cases of what `pack` gives back apart
+one_case : (r s : Result ℕ PackError) → pack_number_of r ≡ pack_number_of s → pack_sent_of r ≡ pack_sent_of s → r ≡ s
+one_case (Ok m) (Ok n) a b = ap Ok b
+one_case (Ok m) (Err ShortReply) a b = absurd (omega (arith, a))
+one_case (Ok m) (Err BadLength) a b = absurd (omega (arith, a))
+one_case (Err ShortReply) (Ok n) a b = absurd (omega (arith, a))
+one_case (Err ShortReply) (Err ShortReply) a b = refl
+one_case (Err ShortReply) (Err BadLength) a b = absurd (omega (arith, a))
+one_case (Err BadLength) (Ok n) a b = absurd (omega (arith, a))
+one_case (Err BadLength) (Err ShortReply) a b = absurd (omega (arith, a))
+one_case (Err BadLength) (Err BadLength) a b = refl
 
 pub pack_allows_one_outcome
-    : (message reply : List ℕ) (r s : Packed) (l m : List ℕ)
+    : (message reply : List ℕ) (r s : Result ℕ PackError) (l m : List ℕ)
     → packing_of r l ≡ pack_of message reply
     → packing_of s m ≡ pack_of message reply
     → (r ≡ s) × (l ≡ m)

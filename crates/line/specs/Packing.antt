@@ -1,8 +1,8 @@
 -- Packing: a message as the line carries it (ICD 9.1), and the answers of packing alone (01, One byte in, one answer out).
-use Rattle.std.specs.Prelude.{ℕ, cond, ◌||◌, List, [], ◌∷◌, ◌++◌, eqb, ltb, length, drop}
+use Rattle.std.specs.Prelude.{ℕ, cond, ◌||◌, Result, Ok, Err, List, [], ◌∷◌, ◌++◌, eqb, ltb, length, drop}
 use Rattle.line.specs.Framing.{fend, fesc, tfend, tfesc}
-use Rattle.line.specs.declared.packing.Packed.{Packed}
-use Rattle.line.specs.declared.packing.Packed.TheVariants.{Sent, ShortReply, BadLength}
+use Rattle.line.specs.declared.packing.PackError.{PackError}
+use Rattle.line.specs.declared.packing.PackError.TheVariants.{ShortReply, BadLength}
 
 -- ICD 9.1: "Whenever FEND would occur within the message it is replaced by two bytes: FESC TFEND. Whenever FESC would occur within the
 -- message it is replaced by FESC TFESC."
@@ -35,20 +35,20 @@ pub record Packing : Type 0 where
   pub sent : ℕ
   pub reply : List ℕ
 
--- 01's number for each case of `Packed`
-abbrev pub pack_number_of : Packed → ℕ
-pack_number_of (Sent n) = 0
-pack_number_of ShortReply = 25
-pack_number_of BadLength = 35
+-- 01's number for each case of what `pack` gives back
+abbrev pub pack_number_of : Result ℕ PackError → ℕ
+pack_number_of (Ok n) = 0
+pack_number_of (Err ShortReply) = 25
+pack_number_of (Err BadLength) = 35
 
--- the bytes sent in each case of `Packed`
-abbrev pub pack_sent_of : Packed → ℕ
-pack_sent_of (Sent n) = n
-pack_sent_of ShortReply = 0
-pack_sent_of BadLength = 0
+-- the bytes sent in each case of it
+abbrev pub pack_sent_of : Result ℕ PackError → ℕ
+pack_sent_of (Ok n) = n
+pack_sent_of (Err ShortReply) = 0
+pack_sent_of (Err BadLength) = 0
 
 -- what `pack` gives back, with the reply buffer as it leaves it
-abbrev pub packing_of : Packed → List ℕ → Packing
+abbrev pub packing_of : Result ℕ PackError → List ℕ → Packing
 packing_of packed reply = record { answer = pack_number_of packed; sent = pack_sent_of packed; reply = reply }
 
 -- 01, One byte in, one answer out: "Packing alone gives 25 for a reply buffer under 2,068 bytes, then 35, and writes nothing; else it

