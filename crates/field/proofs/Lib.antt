@@ -1,4 +1,3 @@
-pub mod Ends
 pub mod Lists
 pub mod Words
 pub mod Places
