@@ -1,15 +1,16 @@
 -- Rows in rising order: what they say of an address is how it stands, and they may be cut where they do not touch. Assumes nothing.
 use mathlib.Core.Path.{◌≡◌, refl, sym, ap, ap₂, subst, ◌∙◌}
 use mathlib.Core.Bool.{Bool, true, false, cond, not, ◌&&◌, and-false}
-use mathlib.Core.List.{List, [], ◌∷◌}
+use mathlib.Core.List.{List, [], ◌∷◌, ◌++◌}
 use mathlib.Core.Logic.{◌⊎◌, inl, inr}
 use Prim.Native.Nat.{ℕ, zero, suc, ◌+◌, ◌-◌, ◌≤◌, ◌<◌}
-use native.Mathlib.Nat.{not-suc-le-zero}
+use native.Mathlib.Nat.{add-zero, not-suc-le-zero}
 use native.Mathlib.Omega.{arith}
 use borrow.Author.Tests.{lt-ltb, le-ltb, le-leb, lt-leb, leb-true, ltb-true, ltb-false}
 use lib.Dec.{leb, ltb}
-use lib.ListN.{length, get_or, take, drop, length-drop, get_or-eq_default}
-use lib.Seq.{drop-cons, drop-length, drop-nil, get_or-drop, get_or-take, take_all}
+use lib.ListN.{length, get_or, take, drop, length-append, length-drop, get_or-eq_default}
+use native.Mathlib.Numerals.{add-one}
+use lib.Seq.{drop-cons, drop-length, drop-nil, get_or-drop, get_or-take, get_or_at, take_all, take_at, take-suc, take-take}
 use Rattle.memory.specs.Edac.{edac_size}
 use Rattle.memory.proofs.Tests.{either_side}
 use Rattle.read_only.specs.declared.rows.Run.{Run}
@@ -315,13 +316,13 @@ a_place_to_cut place rows t =
     (λ there. there)
 
 -- the part before it
-pub before_a_cut : (place : ℕ) (rows : List (List ℕ)) (end at : ℕ) → rising 0 rows end ≡ true → apart place rows ≡ true → at < first (get_or rows place [])
+up_to_a_cut : (place : ℕ) (rows : List (List ℕ)) (end at : ℕ) → rising 0 rows end ≡ true → apart place rows ≡ true → at < first (get_or rows place [])
     → (rising 0 (take place rows) (first (get_or rows place [])) ≡ true) × (run_in rows end at ≡ run_in (take place rows) (first (get_or rows place [])) at)
-before_a_cut zero rows end at e t low =
+up_to_a_cut zero rows end at e t low =
     let gap = ltb-true (last (get_or rows 0 []) + 1) (first (get_or rows 0 [])) t in
     let there = a_place_to_cut 0 rows t in
     absurd (omega (arith, (a_row_lies_below 0 0 rows end e there).0))
-before_a_cut (suc k) rows end at e t low =
+up_to_a_cut (suc k) rows end at e t low =
     let there = a_place_to_cut (suc k) rows t in
     let here = begins_at (suc k) rows end there in
     let gap = ltb-true (last (get_or rows (suc k - 1) []) + 1) (first (get_or rows (suc k) [])) t in
@@ -331,24 +332,47 @@ before_a_cut (suc k) rows end at e t low =
       cut end k rows at (omega arith) (omega arith) (omega arith) ∙ ap (λ (n : ℕ). run_in (take (suc k) rows) n at) here,
     )
 
--- the part behind it
-pub behind_a_cut : (place : ℕ) (rows : List (List ℕ)) (end at : ℕ) → rising 0 rows end ≡ true → apart place rows ≡ true → first (get_or rows place []) ≤ at
-    → (rising 0 (drop place rows) end ≡ true) × (run_in rows end at ≡ run_in (drop place rows) end at)
-behind_a_cut place rows end at e t begun = (rising_behind place 0 rows end e, skipped place 0 rows end at e (a_place_to_cut place rows t) begun)
+-- rows cut at a place, as the code has them
+module _ (place : ℕ) (rows before behind : List (List ℕ)) (front : before ≡ take place rows) (back : behind ≡ drop place rows) where
+  -- another place, in a part
+  pub apart_before : (other : ℕ) → other < place → apart other rows ≡ true → apart other before ≡ true
+  apart_before other less so =
+      ap (apart other) front
+      ∙ ap₂ (λ a b. ltb (last a + 1) (first b)) (get_or-take place rows (other - 1) [] (omega arith)) (get_or-take place rows other [] less)
+      ∙ so
 
--- a place in a part
-pub apart_before : (place n : ℕ) (rows : List (List ℕ)) → place < n → apart place rows ≡ true → apart place (take n rows) ≡ true
-apart_before place n rows less t =
-    ap₂ (λ a b. ltb (last a + 1) (first b)) (get_or-take n rows (place - 1) [] (omega arith)) (get_or-take n rows place [] less) ∙ t
+  pub apart_behind : (other : ℕ) → 0 < other → apart (place + other) rows ≡ true → apart other behind ≡ true
+  apart_behind other some so =
+      let same : place + (other - 1) ≡ place + other - 1 = omega arith in
+      ap (apart other) back
+      ∙ ap₂ (λ a b. ltb (last a + 1) (first b)) (get_or-drop place rows (other - 1) [] ∙ ap (λ (j : ℕ). get_or rows j []) same) (get_or-drop place rows other [])
+      ∙ so
 
-pub apart_behind : (place n : ℕ) (rows : List (List ℕ)) → 0 < place → apart (n + place) rows ≡ true → apart place (drop n rows) ≡ true
-apart_behind place n rows some t =
-    let before : n + (place - 1) ≡ n + place - 1 = omega arith in
-    ap₂ (λ a b. ltb (last a + 1) (first b)) (get_or-drop n rows (place - 1) [] ∙ ap (λ (j : ℕ). get_or rows j []) before) (get_or-drop n rows place []) ∙ t
+  pub rises_behind : (end : ℕ) → rising 0 rows end ≡ true → rising 0 behind end ≡ true
+  rises_behind end e = ap (λ l. rising 0 l end) back ∙ rising_behind place 0 rows end e
 
--- the rest of a list
-pub to_the_end : (place : ℕ) (rows : List (List ℕ)) → take (length rows - place) (drop place rows) ≡ drop place rows
-to_the_end place rows = take_all (length rows - place) (drop place rows) (simp length-drop (omega arith))
+  module _ (t : apart place rows ≡ true) where
+    pub not_all_before : 0 < length behind
+    not_all_before = let there = a_place_to_cut place rows t in rw (back, length-drop) (omega arith)
+
+    -- `middle` is where the part behind begins
+    module _ (end at middle : ℕ) (e : rising 0 rows end ≡ true) (m : middle ≡ first (get_or behind 0 [])) where
+      begins_there : middle ≡ first (get_or rows place [])
+      begins_there =
+          m
+          ∙ ap (λ l. first (get_or l 0 [])) back
+          ∙ ap first (get_or-drop place rows 0 [] ∙ ap (λ (j : ℕ). get_or rows j []) (add-zero place))
+
+      pub before_a_cut : at < middle → (rising 0 before middle ≡ true) × (run_in before middle at ≡ run_in rows end at)
+      before_a_cut low =
+          let so = up_to_a_cut place rows end at e t (omega (arith, begins_there)) in (
+            ap₂ (λ l (n : ℕ). rising 0 l n) front begins_there ∙ so.0,
+            ap₂ (λ l (n : ℕ). run_in l n at) front begins_there ∙ sym so.1,
+          )
+
+      pub behind_a_cut : middle ≤ at → run_in behind end at ≡ run_in rows end at
+      behind_a_cut begun =
+          ap (λ l. run_in l end at) back ∙ sym (skipped place 0 rows end at e (a_place_to_cut place rows t) (omega (arith, begins_there)))
 
 pub what_is_searchable : (rows : List (List ℕ)) → searchable rows ≡ true
     → (rising 0 rows edac_size ≡ true) × (apart 9 rows ≡ true) × (apart 19 rows ≡ true) × (apart 29 rows ≡ true)
@@ -361,39 +385,90 @@ what_is_searchable rows t =
 
 -- ---- a walk over rows, from the last back
 
-pub walk_starts : (rows : List (List ℕ)) (end : ℕ) → (end ≡ begins (drop (length rows) rows) end) × (end ≡ ends (drop (length rows) rows) end)
+-- `rest` are the rows that are still to be walked, the first of all; the address lies before those behind them, of which it is known where they
+-- begin, and where the first, with those that touch it, ends.
+pub record Walked (rows : List (List ℕ)) (end at : ℕ) (rest : List (List ℕ)) (next stop : ℕ) : Type 0 where
+  pub within : length rest ≤ length rows
+  pub still : rest ≡ take (length rest) rows
+  pub before : at < next
+  pub begin : next ≡ begins (drop (length rest) rows) end
+  pub stops : stop ≡ ends (drop (length rest) rows) end
+
+pub walk_starts : (rows : List (List ℕ)) (end at : ℕ) → at < end → Walked rows end at rows end end
 unfolding ends
-walk_starts rows end = (ap (λ l. begins l end) (sym (drop-length rows)), ap (λ l. ends l end) (sym (drop-length rows)))
+walk_starts rows end at inside = record {
+  within = omega arith;
+  still = sym (take_all (length rows) rows (omega arith));
+  before = inside;
+  begin = ap (λ l. begins l end) (sym (drop-length rows));
+  stops = ap (λ l. ends l end) (sym (drop-length rows));
+}
+
+pub the_last_apart : (rest : List (List ℕ)) → 1 ≤ length rest → rest ≡ take (length rest - 1) rest ++ (get_or rest (length rest - 1) [] ∷ [])
+the_last_apart rest some =
+    let all : length rest ≡ suc (length rest - 1) = omega arith in
+    sym (take_all (length rest) rest (omega arith)) ∙ ap (λ (n : ℕ). take n rest) all ∙ take-suc rest (length rest - 1) [] (omega arith)
 
 -- one turn, at the row before those that are walked already
-module _ (rows : List (List ℕ)) (end k next stop : ℕ) (e : rising 0 rows end ≡ true) (some : 0 < k) (within : k ≤ length rows)
-    (n : next ≡ begins (drop k rows) end) (s : stop ≡ ends (drop k rows) end) where
-  abbrev this : List ℕ
-  this = get_or rows (k - 1) []
+module _ (rows : List (List ℕ)) (end at : ℕ) (rest left : List (List ℕ)) (this : List ℕ) (next stop : ℕ) (e : rising 0 rows end ≡ true)
+    (w : Walked rows end at rest next stop) (turn : rest ≡ left ++ (this ∷ [])) where
+  shorter : length rest ≡ length left + 1
+  shorter = ap length turn ∙ length-append left (this ∷ [])
 
-  one_more : drop (k - 1) rows ≡ this ∷ drop k rows
-  one_more = let same : suc (k - 1) ≡ k = omega arith in drop-cons rows (k - 1) [] (omega arith) ∙ ap (λ (j : ℕ). this ∷ drop j rows) same
+  it_is_this : get_or rows (length left) [] ≡ this
+  it_is_this =
+      sym (get_or-take (length rest) rows (length left) [] (omega (arith, shorter)))
+      ∙ ap (λ l. get_or l (length left) []) (sym w.still ∙ turn)
+      ∙ get_or_at left this [] [] (length left) refl
 
-  pub turn_begins : first this ≡ begins (drop (k - 1) rows) end
-  turn_begins = ap (λ l. begins l end) (sym one_more)
+  one_more : drop (length left) rows ≡ this ∷ drop (length rest) rows
+  one_more =
+      let within = w.within in
+      drop-cons rows (length left) [] (omega (arith, shorter))
+      ∙ ap₂ (λ a (n : ℕ). a ∷ drop n rows) it_is_this (sym (shorter ∙ add-one (length left)))
 
-  pub turn_ends : touching (last this + 1) next stop ≡ ends (drop (k - 1) rows) end
+  turn_ends : touching (last this + 1) next stop ≡ ends (drop (length left) rows) end
   unfolding ends
-  turn_ends = ap₂ (touching (last this + 1)) n s ∙ ap (λ l. ends l end) (sym one_more)
+  turn_ends = ap₂ (touching (last this + 1)) w.begin w.stops ∙ ap (λ l. ends l end) (sym one_more)
 
-  skips : (at : ℕ) → first this ≤ at → run_in rows end at ≡ run_in (this ∷ drop k rows) end at
-  skips at begun = skipped (k - 1) 0 rows end at e (omega arith) begun ∙ ap (λ l. run_in l end at) one_more
+  skips : first this ≤ at → run_in rows end at ≡ run_in (this ∷ drop (length rest) rows) end at
+  skips begun =
+      let within = w.within in
+      skipped (length left) 0 rows end at e (omega (arith, shorter)) (rw it_is_this begun) ∙ ap (λ l. run_in l end at) one_more
 
-  pub found_in_a_row : (at : ℕ) → first this ≤ at → at ≤ last this → run true (touching (last this + 1) next stop) ≡ run_in rows end at
-  found_in_a_row at begun here =
-      ap (run true) (turn_ends ∙ ap (λ l. ends l end) one_more) ∙ sym (skips at begun ∙ in_the_first this (drop k rows) end at begun here)
+  -- its addresses, and where it ends with those that touch it, as the code has them
+  module _ (low high met : ℕ) (lo : low ≡ first this) (hi : high ≡ last this) (m : met ≡ touching (high + 1) next stop) where
+    met_so : met ≡ touching (last this + 1) next stop
+    met_so = m ∙ ap (λ (n : ℕ). touching (n + 1) next stop) hi
 
-  pub found_between : (at : ℕ) → first this ≤ at → last this < at → at < next → run false next ≡ run_in rows end at
-  found_between at begun past low =
-      ap (run false) n ∙ sym (skips at begun ∙ behind_the_first this (drop k rows) end at begun past ∙ before_the_rows (drop k rows) end at (omega (arith, n)))
+    pub found_in_a_row : low ≤ at → at ≤ high → run (leb at high) met ≡ run_in rows end at
+    found_in_a_row begun here =
+        ap₂ run (le-leb at high here) (met_so ∙ turn_ends ∙ ap (λ l. ends l end) one_more)
+        ∙ sym (skips (omega arith) ∙ in_the_first this (drop (length rest) rows) end at (omega arith) (omega arith))
 
-pub found_before : (rows : List (List ℕ)) (end k next at : ℕ) → k ≤ 0 → next ≡ begins (drop k rows) end → at < next → run false next ≡ run_in rows end at
-found_before rows end k next at none n low =
-    let all : k ≡ 0 = omega arith in
-    let begin : next ≡ begins rows end = n ∙ ap (λ (j : ℕ). begins (drop j rows) end) all in
+    pub found_between : low ≤ at → high < at → run (leb at high) next ≡ run_in rows end at
+    found_between begun past =
+        let before = w.before in
+        ap₂ run (lt-leb at high past) w.begin
+        ∙ sym (skips (omega arith)
+        ∙ behind_the_first this (drop (length rest) rows) end at (omega arith) (omega arith)
+        ∙ before_the_rows (drop (length rest) rows) end at (omega (arith, w.begin)))
+
+    pub walks_on : at < low → Walked rows end at left low met
+    walks_on early = let within = w.within in record {
+      within = omega (arith, shorter);
+      still =
+          sym (take_at left (this ∷ []) (length left) refl)
+          ∙ ap (take (length left)) (sym turn ∙ w.still)
+          ∙ take-take (length left) (length rest) rows (omega (arith, shorter));
+      before = early;
+      begin = lo ∙ ap (λ l. begins l end) (sym one_more);
+      stops = met_so ∙ turn_ends;
+    }
+
+pub found_before : (rows : List (List ℕ)) (end at : ℕ) (rest : List (List ℕ)) (next stop : ℕ) → Walked rows end at rest next stop → length rest ≡ 0
+    → run false next ≡ run_in rows end at
+found_before rows end at rest next stop w none =
+    let begin : next ≡ begins rows end = w.begin ∙ ap (λ (j : ℕ). begins (drop j rows) end) none in
+    let before = w.before in
     ap (run false) begin ∙ sym (before_the_rows rows end at (omega (arith, begin)))

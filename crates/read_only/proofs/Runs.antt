@@ -122,9 +122,6 @@ module _ (r : Run) (here : ℕ) (is : r ≡ run_of here) (inside : here < edac_s
   pub goes_past : here < r.end
   goes_past = let past = a_run_has_its_byte here inside in let same : r.end ≡ (run_of here).end = ap (λ (run : Run). run.end) is in omega arith
 
-  pub step_on : (at i n to : ℕ) → here ≡ at + i → i < n → to ≡ min (r.end - at) n → (i < to) × (to ≤ n)
-  step_on at i n to e more t = let past = goes_past in (omega arith, omega arith)
-
   pub step_alike : (at i n to : ℕ) → here ≡ at + i → i < n → to ≡ min (r.end - at) n → (k : ℕ) → at + i ≤ k → k < at + to → read_only k ≡ r.read_only
   step_alike at i n to e more t k low high =
       let past = goes_past in

@@ -5,22 +5,24 @@ ghost use Rattle.read_only.specs.ReadOnly.{written};
 ghost use Rattle.read_only.specs.Files.{file_stored};
 
 use crate::rows::run_from;
-use memory::bytes::{lesser, put};
-use memory::edac::{FileAddress, MODE};
+use memory::bytes::put;
+use memory::edac::{EdacAddress, FileAddress, MODE};
 
 // Stores `bytes` in EDAC memory from `at` on, but leaves read-only bytes as they are.
 pub fn store(bytes: &[u8], edac: &mut [u8], at: usize)
     requires { (length edac.old ≡ edac_size) × (at + length bytes.now ≤ edac_size) }
     ensures { edac.new ≡ written edac.old at bytes.now }
 {
-    let mut i = 0;
-    while i < bytes.len() {
-        let run = run_from(at + i);
-        let to = lesser(run.end - at, bytes.len());
+    let mut at = at;
+    let mut rest = bytes;
+    while !rest.is_empty() {
+        let run = run_from(at);
+        let (alike, behind) = rest.split_at(rest.len().min(run.end - at));
         if !run.read_only {
-            put(&bytes[i..to], edac, at + i);
+            put(alike, edac, at);
         }
-        i = to;
+        at += alike.len();
+        rest = behind;
     }
 }
 
@@ -32,13 +34,11 @@ pub fn store_file(edac: &mut [u8], file: FileAddress, body: &[u8])
     if file.0 == 0 {
         edac[MODE] = body[0]; // It is writable, and so are bytes 0 to 3.
         put(&body[1..], edac, 0);
-        return;
-    }
-    let start = file.bytes();
-    let at = start.0 as usize;
-    // A file's four bytes are read-only or writable together, so its first one is asked for all.
-    let run = run_from(at);
-    if !run.read_only {
-        put(body, edac, at);
+    } else {
+        let at = usize::from(EdacAddress::from(file).0);
+        // A file's four bytes are read-only or writable together, so its first one is asked for all.
+        if !run_from(at).read_only {
+            put(body, edac, at);
+        }
     }
 }

@@ -2,8 +2,9 @@
 -- and may be cut where the search cuts it, and row for row against the definition. Assumes nothing.
 use mathlib.Core.Bool.{true}
 use mathlib.Core.List.{List}
-use mathlib.Core.Path.{◌≡◌, refl, ◌∙◌}
+use mathlib.Core.Path.{◌≡◌, refl, ap, ◌∙◌}
 use Prim.Native.Nat.{ℕ, ◌<◌}
+use native.Mathlib.Omega.{arith}
 use Rattle.memory.specs.Edac.{edac_size}
 use Rattle.read_only.specs.ReadOnly.{read_only}
 use Rattle.read_only.specs.Runs.{run_of}
@@ -19,9 +20,9 @@ given rows at t same inside = the_list_gives_the_run rows at (what_is_searchable
 -- The list is in rising order without overlap.
 pub searched-requires : goal.searched-requires
 unfolding searchable rising
-searched-requires c = (refl, c.requires)
+searched-requires c = (refl, omega (arith, c.from.ensures, c.requires))
 
 -- Row for row, it is the definition's.
 pub returns : goal.returns
 unfolding read_only in_some_or searchable rising
-returns c = c.searched.ensures ∙ given _ c.args.at refl (λ (i : ℕ). refl) c.requires
+returns c = c.searched.ensures ∙ given _ c.from.result refl (λ (i : ℕ). refl) (omega (arith, c.from.ensures, c.requires)) ∙ ap run_of c.from.ensures

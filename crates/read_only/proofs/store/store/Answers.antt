@@ -1,55 +1,31 @@
--- `read_only::store::store` meets its contract. The invariant: the first i bytes are stored. Assumes nothing.
-use mathlib.Core.Path.{refl, ◌∙◌}
-use borrow.Author.Tests.{not-true, not-false}
+-- `read_only::store::store` meets its contract: a store under way goes on with what stands alike, whether that is stored or left. Assumes nothing.
+use mathlib.Core.Path.{◌∙◌}
 use native.Mathlib.Omega.{arith}
-use lib.ListN.{length, length-take, length-drop}
-use Rattle.read_only.proofs.Runs.{goes_past, step_on, step_alike}
-use Rattle.read_only.proofs.Turns.{store_start, store_end, store_length, writable_turn, read_only_turn}
+use borrow.Author.Rules.{rules}
+use Prim.Native.Nat.{◌<◌}
+use lib.ListN.{length}
+use Rattle.read_only.proofs.Runs.{goes_past}
+use Rattle.read_only.proofs.Turns.{store_starts, steps_on, a_writable_turn, a_read_only_turn}
 use Rattle.read_only.proofs.store.store.Goals as goal
+use Rattle.read_only.proofs.store.store.Goals.{then-not-run, else-not-run}
 
-pub loop-i-init : goal.loop-i-init
-loop-i-init c = (omega arith, store_start c.args.edac.now c.args.at c.args.bytes.now)
+pub loop-rest-init : goal.loop-rest-init
+loop-rest-init c = store_starts _ _ _
 
 pub overflow_sub-run : goal.overflow_sub-run
-overflow_sub-run c = omega (arith, goes_past _ _ c.run_from-run.ensures (omega arith))
+overflow_sub-run c =
+    let some : 0 < length c.loop-rest.rest.now = search rules in
+    omega (arith, c.loop-rest.invariant.left, goes_past _ _ c.run_from-run.ensures (omega (arith, c.loop-rest.invariant.left)))
 
-pub slice_bounds-put-count : goal.slice_bounds-put-count
-slice_bounds-put-count c = omega (arith, step_on _ _ c.run_from-run.ensures (omega arith) c.args.at c.loop-i.i (length c.args.bytes.now) c.lesser-to.result refl c.loop-i-test.true c.lesser-to.ensures)
+pub loop-rest-smaller : goal.loop-rest-smaller
+loop-rest-smaller c =
+    let some : 0 < length c.loop-rest.rest.now = search rules in
+    omega (arith, c.split_at.ensures.back_len, steps_on _ _ _ _ _ _ c.loop-rest.invariant c.requires.1 c.requires.0 some _ c.run_from-run.ensures _ c.min.ensures)
 
-pub slice_bounds-put-start : goal.slice_bounds-put-start
-slice_bounds-put-start c = omega (arith, step_on _ _ c.run_from-run.ensures (omega arith) c.args.at c.loop-i.i (length c.args.bytes.now) c.lesser-to.result refl c.loop-i-test.true c.lesser-to.ensures)
-
-pub slice_bounds-put-end : goal.slice_bounds-put-end
-slice_bounds-put-end c = omega (arith, step_on _ _ c.run_from-run.ensures (omega arith) c.args.at c.loop-i.i (length c.args.bytes.now) c.lesser-to.result refl c.loop-i-test.true c.lesser-to.ensures)
-
-pub put-requires : goal.put-requires
-put-requires c =
-    let on = step_on _ _ c.run_from-run.ensures (omega arith) c.args.at c.loop-i.i (length c.args.bytes.now) c.lesser-to.result refl c.loop-i-test.true c.lesser-to.ensures in
-    let same = store_length c.args.edac.now c.args.at c.args.bytes.now c.loop-i.i _ c.loop-i.invariant.1 in
-    simp (length-take, length-drop) (omega (arith, on, same))
-
-pub loop-i-smaller-then-not-run : goal.loop-i-smaller-then-not-run
-loop-i-smaller-then-not-run c = omega (arith, step_on _ _ c.run_from-run.ensures (omega arith) c.args.at c.loop-i.i (length c.args.bytes.now) c.lesser-to.result refl c.loop-i-test.true c.lesser-to.ensures)
-
-pub loop-i-preserved-then-not-run : goal.loop-i-preserved-then-not-run
-loop-i-preserved-then-not-run c =
-    let on = step_on _ _ c.run_from-run.ensures (omega arith) c.args.at c.loop-i.i (length c.args.bytes.now) c.lesser-to.result refl c.loop-i-test.true c.lesser-to.ensures in (
-      on.1,
-      c.put.ensures
-          ∙ writable_turn c.args.edac.now c.args.at c.args.bytes.now c.loop-i.i c.lesser-to.result _ (omega arith) (omega arith) on.1 c.loop-i.invariant.1
-          (λ k low high. step_alike _ _ c.run_from-run.ensures (omega arith) c.args.at c.loop-i.i (length c.args.bytes.now) c.lesser-to.result refl c.loop-i-test.true c.lesser-to.ensures k low high ∙ not-true _ c.if-not-run.true),
-    )
-
-pub loop-i-smaller : goal.loop-i-smaller
-loop-i-smaller c = omega (arith, step_on _ _ c.run_from-run.ensures (omega arith) c.args.at c.loop-i.i (length c.args.bytes.now) c.lesser-to.result refl c.loop-i-test.true c.lesser-to.ensures)
-
-pub loop-i-preserved : goal.loop-i-preserved
-loop-i-preserved c =
-    let on = step_on _ _ c.run_from-run.ensures (omega arith) c.args.at c.loop-i.i (length c.args.bytes.now) c.lesser-to.result refl c.loop-i-test.true c.lesser-to.ensures in (
-      on.1,
-      read_only_turn c.args.edac.now c.args.at c.args.bytes.now c.loop-i.i c.lesser-to.result _ (omega arith) (omega arith) on.1 c.loop-i.invariant.1
-          (λ k low high. step_alike _ _ c.run_from-run.ensures (omega arith) c.args.at c.loop-i.i (length c.args.bytes.now) c.lesser-to.result refl c.loop-i-test.true c.lesser-to.ensures k low high ∙ not-false _ c.if-not-run.false),
-    )
-
-pub returns : goal.returns
-returns c = store_end c.args.edac.now c.args.at c.args.bytes.now c.loop-i.i _ c.loop-i.invariant.0 c.loop-i-test.false c.loop-i.invariant.1
+pub loop-rest-preserved : goal.loop-rest-preserved
+loop-rest-preserved c =
+    let some : 0 < length c.loop-rest.rest.now = search rules in
+    elim c.if-not-run.branch [
+      | then-not-run w ↦ a_writable_turn _ _ _ _ _ _ c.loop-rest.invariant c.requires.1 c.requires.0 some _ c.run_from-run.ensures _ c.min.ensures _ _ _ c.split_at.ensures.front c.split_at.ensures.back w.if-not-run.true (w.edac-is ∙ w.put.ensures)
+      | else-not-run w ↦ a_read_only_turn _ _ _ _ _ _ c.loop-rest.invariant c.requires.1 c.requires.0 some _ c.run_from-run.ensures _ c.min.ensures _ _ _ c.split_at.ensures.front c.split_at.ensures.back w.if-not-run.false w.edac-is
+    ]

@@ -1,12 +1,10 @@
--- `read_only::store::store` meets its contract. The invariant: the first i bytes are stored. Assumes nothing.
-use mathlib.Core.Path.{◌≡◌}
-use Prim.Native.Nat.{◌≤◌, ◌-◌}
-use lib.ListN.{length, take}
-use Rattle.read_only.specs.ReadOnly.{written}
+-- `read_only::store::store` meets its contract. The invariant: the bytes before `rest` are stored. Assumes nothing.
+use lib.ListN.{length}
+use Rattle.read_only.proofs.Turns.{UnderWay}
 use Rattle.read_only.proofs.store.store.Given as goal
 
-abbrev pub invariant-loop-i : goal.invariant-loop-i
-invariant-loop-i l = (l.i ≤ length l.bytes) × (l.edac ≡ written l.initial.edac l.at (take l.i l.bytes))
+abbrev pub invariant-loop-rest : goal.invariant-loop-rest
+invariant-loop-rest l = UnderWay l.initial.edac l.fn.at l.bytes l.edac l.at l.rest
 
-abbrev pub decreases-loop-i : goal.decreases-loop-i
-decreases-loop-i l = length l.bytes - l.i
+abbrev pub decreases-loop-rest : goal.decreases-loop-rest
+decreases-loop-rest l = length l.rest

@@ -1,5 +1,6 @@
 -- `read_only::store::store_file` meets its contract, by one law for file 0 and two for any other. Assumes nothing.
 use mathlib.Core.Path.{◌∙◌}
+use borrow.Author.Rules.{rules}
 use native.Mathlib.Omega.{arith}
 use borrow.Author.Tests.{not-true, not-false}
 use lib.ListN.{length-set, length-take, length-drop}
@@ -24,16 +25,16 @@ put-requires c =
 pub returns-then-file-eq0 : goal.returns-then-file-eq0
 returns-then-file-eq0 c = c.put.ensures ∙ store_file_0 _ _ _ c.requires.0 c.requires.1 c.if-file-eq0.true
 
-pub run_from-run-requires : goal.run_from-run-requires
-run_from-run-requires c = omega (arith, c.bytes-start.ensures)
+pub run_from-requires : goal.run_from-requires
+run_from-requires c = omega arith
 
-pub put-requires-then-not-run : goal.put-requires-then-not-run
-put-requires-then-not-run c = omega (arith, size_of_another _ c.if-file-eq0.false, c.bytes-start.ensures)
+pub put-requires-then-not-run_from : goal.put-requires-then-not-run_from
+put-requires-then-not-run_from c = omega (arith, size_of_another _ c.if-file-eq0.false)
 
-pub returns-then-not-run : goal.returns-then-not-run
-returns-then-not-run c =
-    c.put-then-not-run.ensures
-    ∙ store_another _ _ _ _ _ c.requires.0 (omega arith) c.requires.1 c.if-file-eq0.false c.bytes-start.ensures (asked_of_a_run _ _ c.run_from-run.ensures) (not-true _ c.if-not-run.true)
+pub returns-then-not-run_from : goal.returns-then-not-run_from
+returns-then-not-run_from c =
+    c.put-then-not-run_from.ensures
+    ∙ store_another _ _ _ _ _ c.requires.0 (omega arith) c.requires.1 c.if-file-eq0.false (search rules) (asked_of_a_run _ _ c.run_from.ensures) (not-true _ c.if-not-run_from.true)
 
-pub returns-else-not-run : goal.returns-else-not-run
-returns-else-not-run c = leave_another _ _ _ _ _ c.requires.0 (omega arith) c.requires.1 c.if-file-eq0.false c.bytes-start.ensures (asked_of_a_run _ _ c.run_from-run.ensures) (not-false _ c.if-not-run.false)
+pub returns-else-not-run_from : goal.returns-else-not-run_from
+returns-else-not-run_from c = leave_another _ _ _ _ _ c.requires.0 (omega arith) c.requires.1 c.if-file-eq0.false (search rules) (asked_of_a_run _ _ c.run_from.ensures) (not-false _ c.if-not-run_from.false)
