@@ -38,57 +38,43 @@ pub enum Answer {
 }
 
 // 01's number.
-pub fn number_of(answer: Answer) -> u8
-    ensures { result ≡ number_of answer }
-{
-    match answer {
-        Answer::Taken => 0,
-        Answer::Acked(_) => 1,
-        Answer::Done => 2,
-        Answer::Nacked(_) => 3,
-        Answer::Refused => 4,
-        Answer::Framing => 5,
-        Answer::Runt => 6,
-        Answer::Oversize => 7,
-        Answer::BadCrc => 8,
-        Answer::Elsewhere => 9,
-        Answer::Unfitted => 10,
-        Answer::BadStrap => 20,
-        Answer::BadEdac => 21,
-        Answer::BadFram => 22,
-        Answer::BadSums => 23,
-        Answer::BadDiagnostics => 24,
-        Answer::BadBuffers => 25,
-        Answer::BadCount => 26,
-        Answer::BadPort => 27,
-        Answer::BadLimit => 29,
+impl From<Answer> for u8 {
+    ghost from_gives = { λ answer number. number ≡ number_of answer };
+
+    fn from(answer: Answer) -> u8 {
+        match answer {
+            Answer::Taken => 0,
+            Answer::Acked(_) => 1,
+            Answer::Done => 2,
+            Answer::Nacked(_) => 3,
+            Answer::Refused => 4,
+            Answer::Framing => 5,
+            Answer::Runt => 6,
+            Answer::Oversize => 7,
+            Answer::BadCrc => 8,
+            Answer::Elsewhere => 9,
+            Answer::Unfitted => 10,
+            Answer::BadStrap => 20,
+            Answer::BadEdac => 21,
+            Answer::BadFram => 22,
+            Answer::BadSums => 23,
+            Answer::BadDiagnostics => 24,
+            Answer::BadBuffers => 25,
+            Answer::BadCount => 26,
+            Answer::BadPort => 27,
+            Answer::BadLimit => 29,
+        }
     }
 }
 
-// How many bytes of a reply buffer are sent.
-pub fn sent_of(answer: Answer) -> usize
-    ensures { result ≡ sent_of answer }
-{
-    match answer {
-        Answer::Acked(n) => n,
-        Answer::Nacked(n) => n,
-        Answer::Taken => 0,
-        Answer::Done => 0,
-        Answer::Refused => 0,
-        Answer::Framing => 0,
-        Answer::Runt => 0,
-        Answer::Oversize => 0,
-        Answer::BadCrc => 0,
-        Answer::Elsewhere => 0,
-        Answer::Unfitted => 0,
-        Answer::BadStrap => 0,
-        Answer::BadEdac => 0,
-        Answer::BadFram => 0,
-        Answer::BadSums => 0,
-        Answer::BadDiagnostics => 0,
-        Answer::BadBuffers => 0,
-        Answer::BadCount => 0,
-        Answer::BadPort => 0,
-        Answer::BadLimit => 0,
+impl Answer {
+    // How many bytes of a reply buffer are sent.
+    pub fn sent(self) -> usize
+        ensures { result ≡ sent_of self }
+    {
+        match self {
+            Answer::Acked(n) | Answer::Nacked(n) => n,
+            _ => 0,
+        }
     }
 }

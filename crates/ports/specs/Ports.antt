@@ -1,5 +1,5 @@
 -- A port, of which a unit has two: 02, T-01. What stands in quotes is 02. Assumes nothing.
-use Rattle.std.specs.Prelude.{ℕ, ◌+◌, Bool, true, false, cond, List, eqb}
+use Rattle.std.specs.Prelude.{ℕ, ◌+◌, Bool, true, false, cond, List, eqb, Option, Some, None}
 use Rattle.line.specs.Framing.{fend}
 use Rattle.line.specs.declared.receiver.Heard.{Heard}
 use Rattle.line.specs.declared.receiver.Heard.TheVariants as heard
@@ -9,43 +9,45 @@ use Rattle.ports.specs.declared.Side.{Side}
 use Rattle.ports.specs.declared.Side.TheVariants.{Zero, One}
 use Rattle.ports.specs.declared.Port.{Port}
 use Rattle.ports.specs.declared.Port.TheVariants.{Hearing, Throwing}
-use Rattle.ports.specs.declared.Ports.{Ports}
-use Rattle.ports.specs.declared.Sending.{Sending}
+use Rattle.ports.specs.declared.Both.{Both}
+use Rattle.ports.specs.declared.Counts.{Counts}
 use Rattle.ports.specs.declared.Got.{Got}
-use Rattle.ports.specs.declared.Answered.{Answered}
-use Rattle.ports.specs.declared.Answered.TheVariants.{On, Nowhere}
 use Rattle.ports.specs.declared.Fate.{Fate}
 use Rattle.ports.specs.declared.Fate.TheVariants.{Nothing, Lost, Leaves}
-use Rattle.ports.specs.Sides.{Both, of_side, put}
+use Rattle.ports.specs.Sides.{both, of_side, put}
 
 -- ---- addresses
 
 -- Of the two addresses that a port hears, one is answered on port 1 and one on port 0.
-abbrev pub by_address : ℕ → ℕ → ℕ → Answered
-by_address destination to1 to0 = cond (eqb destination to1) (On One) (cond (eqb destination to0) (On Zero) Nowhere)
+abbrev pub by_address : ℕ → ℕ → ℕ → Option Side
+by_address destination to1 to0 = cond (eqb destination to1) (Some One) (cond (eqb destination to0) (Some Zero) None)
 
 -- "0x40+s (reply on port 1) and 0x60+s (port 0) on port 0, and 0x50+s (port 1) and 0x70+s (port 0) on port 1"; no other address is heard.
-unfoldable pub answered_on : ℕ → Side → ℕ → Answered
+unfoldable pub answered_on : ℕ → Side → ℕ → Option Side
 answered_on strap Zero destination = by_address destination (0x40 + strap) (0x60 + strap)
 answered_on strap One destination = by_address destination (0x50 + strap) (0x70 + strap)
 
 -- ---- the two of a unit
 
+-- The ports of a unit, and whether each is sending now.
+abbrev pub Ports : Type 0
+Ports = Both Port
+
+abbrev pub Sending : Type 0
+Sending = Both Bool
+
 abbrev pub port_of : Side → Ports → Port
-port_of Zero ports = ports.port0
-port_of One ports = ports.port1
+port_of = of_side
 
 abbrev pub with_port : Side → Ports → Port → Ports
-with_port Zero ports port = record { port0 = port; port1 = ports.port1 }
-with_port One ports port = record { port0 = ports.port0; port1 = port }
+with_port = put
 
 abbrev pub is_sending : Side → Sending → Bool
-is_sending Zero sending = sending.port0
-is_sending One sending = sending.port1
+is_sending = of_side
 
 -- Both receivers fresh.
 abbrev pub both_fresh : Ports
-both_fresh = record { port0 = Hearing fresh; port1 = Hearing fresh }
+both_fresh = both (Hearing fresh) (Hearing fresh)
 
 -- ---- one byte
 
@@ -117,6 +119,9 @@ thrown_count One = 0x13
 abbrev pub lost_count : Side → ℕ
 lost_count Zero = 0x0D
 lost_count One = 0x14
+
+abbrev pub counts_of : Side → Counts
+counts_of side = record { first = first_count side; thrown = thrown_count side; lost = lost_count side }
 
 -- The ports and the diagnostics, after what becomes of a reply.
 pub record Settlement : Type 0 where

@@ -2,6 +2,7 @@
 use Rattle.std.specs.Prelude.{ℕ, cond, eqb}
 use Rattle.ports.specs.declared.Side.{Side}
 use Rattle.ports.specs.declared.Side.TheVariants.{Zero, One}
+use Rattle.ports.specs.declared.Both.{Both}
 
 -- The port that a number names. (Numbers other than 0 and 1, which name none, are refused with 27 before anything is done.)
 abbrev pub side_of : ℕ → Side
@@ -12,17 +13,13 @@ number_of_side Zero = 0
 number_of_side One = 1
 
 -- One for each port, that of one of them, and the two with that of one changed.
-pub record Both (A : Type 0) : Type 0 where
-  pub at0 : A
-  pub at1 : A
-
 abbrev pub both : {A : Type 0} → A → A → Both A
-both a b = record { at0 = a; at1 = b }
+both a b = record { port0 = a; port1 = b }
 
 abbrev pub of_side : {A : Type 0} → Side → Both A → A
-of_side Zero two = two.at0
-of_side One two = two.at1
+of_side Zero two = two.port0
+of_side One two = two.port1
 
 abbrev pub put : {A : Type 0} → Side → Both A → A → Both A
-put Zero two a = both a two.at1
-put One two a = both two.at0 a
+put Zero two a = both a two.port1
+put One two a = both two.port0 a

@@ -2,11 +2,11 @@
 #![tactic(auto)]
 
 ghost use Rattle.std.specs.Prelude.{◌≡◌, take};
-ghost use Rattle.ports.specs.Sides.{side_of, both, of_side};
-ghost use Rattle.ports.specs.Ports.{count_of, hearing_of, hear_of, hearing_on, hear_on_of, is_open, port_of, with_port, is_sending, by_address, answered_on, first_count, thrown_count, lost_count, settlement, settle_of};
+ghost use Rattle.ports.specs.Sides.{side_of, number_of_side, both, of_side, put};
+ghost use Rattle.ports.specs.Ports.{count_of, hearing_of, hear_of, hearing_on, hear_on_of, is_open, by_address, answered_on, counts_of, settlement, settle_of};
 
 use line::framing::FEND;
-use line::receiver::{Heard, Place, Receiver};
+use line::receiver::{Heard, Place, Receiver, receive};
 use memory::counts::count_up;
 
 // One of the two ports.
@@ -23,17 +23,44 @@ pub enum Port {
     Throwing(usize),
 }
 
+// One of a thing for each port.
 #[derive(Clone, Copy)]
-pub struct Ports {
-    pub port0: Port,
-    pub port1: Port,
+pub struct Both<T> {
+    pub port0: T,
+    pub port1: T,
 }
 
+pub type Ports = Both<Port>;
+
 // Whether each port is sending now.
-#[derive(Clone, Copy)]
-pub struct Sending {
-    pub port0: bool,
-    pub port1: bool,
+pub type Sending = Both<bool>;
+
+impl<T: Copy> Both<T> {
+    // That of one port.
+    pub fn of(self, side: Side) -> T
+        ensures { result ≡ of_side side self }
+    {
+        match side {
+            Side::Zero => self.port0,
+            Side::One => self.port1,
+        }
+    }
+
+    // The two with that of one port set, and the other as it was.
+    pub fn with(self, side: Side, value: T) -> Self
+        ensures { result ≡ put side self value }
+    {
+        match side {
+            Side::Zero => Both {
+                port0: value,
+                ..self
+            },
+            Side::One => Both {
+                port1: value,
+                ..self
+            },
+        }
+    }
 }
 
 // The port after one byte, and what was heard.
@@ -43,18 +70,19 @@ pub struct Got {
     pub heard: Heard,
 }
 
-// Both ports after one byte on one of them, and what was heard.
+// Both ports after one byte on one of them, and what was heard. It is no generic type with `Got`, whose field would be `port` of two ports.
 #[derive(Clone, Copy)]
 pub struct GotOn {
     pub ports: Ports,
     pub heard: Heard,
 }
 
-// Where a message is answered that came in on some port: on a port, or nowhere, since its address is not heard there.
+// The diagnostics of a port: the first of its four error counts, the runs thrown away, the replies lost.
 #[derive(Clone, Copy)]
-pub enum Answered {
-    On(Side),
-    Nowhere,
+pub struct Counts {
+    pub first: usize,
+    pub thrown: usize,
+    pub lost: usize,
 }
 
 // What becomes of the reply to a command: there is none, its port is sending and it is lost, or it leaves.
@@ -75,42 +103,23 @@ const ON_1_TO_1: u16 = 0x50;
 const ON_1_TO_0: u16 = 0x70;
 
 // The port that a number names; a number that names none is refused elsewhere.
-pub fn side_of(number: u8) -> Side
-    ensures { result ≡ side_of number }
-{
-    if number == 0 { Side::Zero } else { Side::One }
-}
+impl From<u8> for Side {
+    ghost from_gives = { λ number side. side ≡ side_of number };
 
-pub fn port_of(side: Side, ports: Ports) -> Port
-    ensures { result ≡ port_of side ports }
-{
-    match side {
-        Side::Zero => ports.port0,
-        Side::One => ports.port1,
+    fn from(number: u8) -> Side {
+        if number == 0 { Side::Zero } else { Side::One }
     }
 }
 
-pub fn with_port(side: Side, ports: Ports, port: Port) -> Ports
-    ensures { result ≡ with_port side ports port }
-{
-    match side {
-        Side::Zero => {
-            let port1 = ports.port1;
-            Ports { port0: port, port1 }
-        }
-        Side::One => {
-            let port0 = ports.port0;
-            Ports { port0, port1: port }
-        }
-    }
-}
+// The number of a port.
+impl From<Side> for u8 {
+    ghost from_gives = { λ side number. number ≡ number_of_side side };
 
-pub fn is_sending(side: Side, sending: Sending) -> bool
-    ensures { result ≡ is_sending side sending }
-{
-    match side {
-        Side::Zero => sending.port0,
-        Side::One => sending.port1,
+    fn from(side: Side) -> u8 {
+        match side {
+            Side::Zero => 0,
+            Side::One => 1,
+        }
     }
 }
 
@@ -125,39 +134,34 @@ pub fn count_of(port: Port) -> usize
 }
 
 // One byte that comes in on a port.
+#[tactic(auto, unfolding(crate::specs::Ports::hear_of))]
 pub fn hear(largest: u16, port: Port, byte: u8, message: &mut [u8]) -> Got
     ensures { hearing_of result message.new ≡ hear_of largest port byte message.old }
 {
     match port {
         Port::Hearing(receiver) => {
-            let got = line::receiver::receive(largest, receiver, byte, message);
-            let after = got.receiver;
-            let heard = got.heard;
+            let got = receive(largest, receiver, byte, message);
             Got {
-                port: Port::Hearing(after),
-                heard,
+                port: Port::Hearing(got.receiver),
+                heard: got.heard,
             }
         }
-        Port::Throwing(count) => {
-            if byte == FEND {
-                Got {
-                    port: Port::Hearing(Receiver {
-                        place: Place::Run,
-                        count: 0,
-                    }),
-                    heard: Heard::Empty,
-                }
-            } else {
-                Got {
-                    port: Port::Throwing(count),
-                    heard: Heard::Taken,
-                }
-            }
-        }
+        Port::Throwing(_) if byte == FEND => Got {
+            port: Port::Hearing(Receiver {
+                place: Place::Run,
+                count: 0,
+            }),
+            heard: Heard::Empty,
+        },
+        Port::Throwing(_) => Got {
+            port,
+            heard: Heard::Taken,
+        },
     }
 }
 
-// One byte that comes in on one of the two. Each arm makes both ports, so that they need not be stored to set the one that heard it.
+// One byte that comes in on one of the two. The two buffers are no `Both`: each function that took one would have to promise too that it holds
+// the same buffers afterwards.
 pub fn hear_on(
     side: Side,
     largest: u16,
@@ -169,51 +173,33 @@ pub fn hear_on(
     ensures { hearing_on result.ports result.heard (both message0.new message1.new)
         ≡ hear_on_of side largest ports byte (both message0.old message1.old) }
 {
-    let port0 = ports.port0;
-    let port1 = ports.port1;
-    match side {
-        Side::Zero => {
-            let got = hear(largest, port0, byte, message0);
-            let after = got.port;
-            let heard = got.heard;
-            GotOn {
-                ports: Ports {
-                    port0: after,
-                    port1,
-                },
-                heard,
-            }
-        }
-        Side::One => {
-            let got = hear(largest, port1, byte, message1);
-            let after = got.port;
-            let heard = got.heard;
-            GotOn {
-                ports: Ports {
-                    port0,
-                    port1: after,
-                },
-                heard,
-            }
-        }
+    let got = match side {
+        Side::Zero => hear(largest, ports.port0, byte, message0),
+        Side::One => hear(largest, ports.port1, byte, message1),
+    };
+    GotOn {
+        ports: ports.with(side, got.port),
+        heard: got.heard,
     }
 }
 
 // By the two addresses that a port hears.
-fn by_address(destination: u16, to_1: u16, to_0: u16) -> Answered
+fn by_address(destination: u16, to_1: u16, to_0: u16) -> Option<Side>
     ensures { result ≡ by_address destination to_1 to_0 }
 {
     if destination == to_1 {
-        return Answered::On(Side::One);
+        Some(Side::One)
+    } else if destination == to_0 {
+        Some(Side::Zero)
+    } else {
+        None
     }
-    if destination == to_0 {
-        return Answered::On(Side::Zero);
-    }
-    Answered::Nowhere
 }
 
-// Where a message for this address is answered that came in on this port. In 16 bits, so that no strap is too large to add.
-pub fn answered_on(strap: u8, side: Side, destination: u8) -> Answered
+// Where a message for this address is answered that came in on this port: on a port, or nowhere, since its address is not heard there. In 16
+// bits, so that no strap is too large to add.
+#[tactic(auto, unfolding(crate::specs::Ports::answered_on))]
+pub fn answered_on(strap: u8, side: Side, destination: u8) -> Option<Side>
     ensures { result ≡ answered_on strap side destination }
 {
     let s = strap as u16;
@@ -224,69 +210,60 @@ pub fn answered_on(strap: u8, side: Side, destination: u8) -> Answered
     }
 }
 
-// The diagnostics of a port: the first of its four error counts, the runs thrown away, the replies lost.
-pub fn first_count(side: Side) -> usize
-    ensures { result ≡ first_count side }
-{
-    match side {
-        Side::Zero => 0x07,
-        Side::One => 0x0e,
-    }
-}
-
-fn thrown_count(side: Side) -> usize
-    ensures { result ≡ thrown_count side }
-{
-    match side {
-        Side::Zero => 0x0c,
-        Side::One => 0x13,
-    }
-}
-
-fn lost_count(side: Side) -> usize
-    ensures { result ≡ lost_count side }
-{
-    match side {
-        Side::Zero => 0x0d,
-        Side::One => 0x14,
+impl Side {
+    // The diagnostics of a port.
+    pub fn counts(self) -> Counts
+        ensures { result ≡ counts_of self }
+    {
+        match self {
+            Side::Zero => Counts {
+                first: 0x07,
+                thrown: 0x0c,
+                lost: 0x0d,
+            },
+            Side::One => Counts {
+                first: 0x0e,
+                thrown: 0x13,
+                lost: 0x14,
+            },
+        }
     }
 }
 
 // Whether a run is open in which any byte came.
+#[tactic(auto, unfolding(crate::specs::Ports::is_open, line::specs::Receiver::closed_of))]
 pub fn is_open(port: Port) -> bool
     ensures { result ≡ is_open port }
 {
     match port {
-        Port::Hearing(receiver) => {
-            let place = receiver.place;
-            match place {
-                Place::Fresh => false,
-                Place::Run => receiver.count != 0,
-                Place::Escape => true,
-                Place::Fault => true,
-            }
-        }
+        Port::Hearing(receiver) => match receiver.place {
+            Place::Fresh => false,
+            Place::Run => receiver.count != 0,
+            Place::Escape | Place::Fault => true,
+        },
         Port::Throwing(_) => false,
     }
 }
 
 // What a reply does to the port on which it leaves or should have left, and to the counts.
+#[tactic(auto, unfolding(crate::specs::Ports::settle_of))]
 pub fn settle(fate: Fate, side: Side, ports: Ports, diagnostics: &mut [u32]) -> Ports
     ensures { settlement result diagnostics.new ≡ settle_of fate side ports diagnostics.old }
 {
     match fate {
         Fate::Nothing => ports,
         Fate::Lost => {
-            count_up(diagnostics, lost_count(side));
+            count_up(diagnostics, side.counts().lost);
             ports
         }
         Fate::Leaves => {
-            let port = port_of(side, ports);
+            let port = ports.of(side);
             if is_open(port) {
-                count_up(diagnostics, thrown_count(side));
-                return with_port(side, ports, Port::Throwing(count_of(port)));
+                count_up(diagnostics, side.counts().thrown);
+                ports.with(side, Port::Throwing(count_of(port)))
+            } else {
+                ports
             }
-            ports
         }
     }
 }
@@ -295,29 +272,21 @@ pub fn settle(fate: Fate, side: Side, ports: Ports, diagnostics: &mut [u32]) -> 
 pub fn heard_by<'a>(side: Side, message0: &'a [u8], message1: &'a [u8]) -> &'a [u8]
     ensures { result.now ≡ of_side side (both message0.now message1.now) }
 {
-    match side {
-        Side::Zero => message0,
-        Side::One => message1,
-    }
+    let messages = Both {
+        port0: message0,
+        port1: message1,
+    };
+    messages.of(side)
 }
 
-// The first part of a buffer. An `n` past the end gives the whole.
-fn part<'a>(buffer: &'a [u8], n: usize) -> &'a [u8]
-    ensures { result.now ≡ take n buffer.now }
-{
-    if n <= buffer.len() {
-        &buffer[0..n]
-    } else {
-        buffer
-    }
-}
-
-// The written first part of the reply buffer of a port, handed back to be sent.
+// The written first part of the reply buffer of a port, handed back to be sent. An `n` past its end gives the whole.
 pub fn sent_by<'a>(side: Side, n: usize, reply0: &'a [u8], reply1: &'a [u8]) -> &'a [u8]
     ensures { result.now ≡ take n (of_side side (both reply0.now reply1.now)) }
 {
-    match side {
-        Side::Zero => part(reply0, n),
-        Side::One => part(reply1, n),
-    }
+    let replies = Both {
+        port0: reply0,
+        port1: reply1,
+    };
+    let reply = replies.of(side);
+    reply.get(..n).unwrap_or(reply)
 }

@@ -1,9 +1,0 @@
--- `ports::side_of` meets its contract, by its test. Assumes nothing.
-use borrow.Author.Tests.{eq-eqb, ne_eqb}
-use Rattle.ports.proofs.side_of.Goals as goal
-
-pub returns-then-number-eq0 : goal.returns-then-number-eq0
-returns-then-number-eq0 c = simp (eq-eqb _ 0 c.if-number-eq0.true)
-
-pub returns-else-number-eq0 : goal.returns-else-number-eq0
-returns-else-number-eq0 c = simp (ne_eqb _ 0 c.if-number-eq0.false)
