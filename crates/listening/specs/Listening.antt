@@ -3,7 +3,8 @@ use Rattle.std.specs.Prelude.{ℕ, ◌+◌, Bool, cond, ◌&&◌, List, [], ◌�
 use Rattle.line.specs.Framing.{fend}
 use Rattle.ports.specs.declared.Port.{Port}
 use Rattle.ports.specs.declared.Side.{Side}
-use Rattle.ports.specs.Sides.{Both, of_side, put}
+use Rattle.ports.specs.declared.Both.{Both}
+use Rattle.ports.specs.Sides.{of_side, put}
 use Rattle.ports.specs.Ports.{is_open, hear_of}
 use Rattle.listening.specs.declared.Listened.{Listened}
 

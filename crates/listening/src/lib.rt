@@ -1,10 +1,10 @@
 // Bytes that come in on a port, as many in one go as close no run that is to be judged.
 #![tactic(auto)]
 
-ghost use Rattle.std.specs.Prelude.{◌≡◌, ◌&&◌, not, ◌≤◌, eqb, length, drop};
+ghost use Rattle.std.specs.Prelude.{◌≡◌, ◌&&◌, not, ◌-◌, ◌≤◌, eqb, length};
 ghost use Rattle.line.specs.Framing.{fend, fesc};
-ghost use Rattle.ports.specs.declared.Port.TheVariants.{Hearing};
 ghost use Rattle.line.specs.declared.receiver.Place.TheVariants.{Run};
+ghost use Rattle.ports.specs.declared.Port.TheVariants.{Hearing};
 ghost use Rattle.ports.specs.Sides.{both};
 ghost use Rattle.listening.specs.Listening.{closes, listening_of, behind, listen_of, listen_on_of};
 
@@ -19,82 +19,80 @@ pub struct Listened {
     pub taken: usize,
 }
 
-// The count of a run after some bytes of it, and how many there were.
+// The port after some bytes, and the bytes behind them.
 #[derive(Clone, Copy)]
-struct Stretch {
+struct Left<'a> {
+    pub port: Port,
+    pub rest: &'a [u8],
+}
+
+// The count of a run after some bytes of it, and the bytes behind them.
+#[derive(Clone, Copy)]
+struct Stretch<'a> {
     pub count: usize,
-    pub taken: usize,
+    pub rest: &'a [u8],
 }
 
 // Whether a byte stands for itself in a run.
 fn is_plain(byte: u8) -> bool
     ensures { result ≡ (not (eqb byte fend) && not (eqb byte fesc)) }
 {
-    if byte == FEND {
-        return false;
-    }
-    byte != FESC
+    byte != FEND && byte != FESC
 }
 
 // Whether a byte closes a run in which any byte came.
 fn is_closing(port: Port, byte: u8) -> bool
     ensures { result ≡ closes port byte }
 {
-    if byte == FEND {
-        return is_open(port);
-    }
-    false
+    byte == FEND && is_open(port)
 }
 
 // The first bytes of a run that stand for themselves. Most bytes are such, and a loop of their own asks less of each.
-fn plain(largest: u16, count: usize, bytes: &[u8], message: &mut [u8]) -> Stretch
-    ensures { (result.taken ≤ length bytes.now)
+fn plain<'a>(largest: u16, mut count: usize, bytes: &'a [u8], message: &mut [u8]) -> Stretch<'a>
+    ensures { (length result.rest.now ≤ length bytes.now)
         × (listen_of largest (Hearing (record { place = Run; count = count })) bytes.now message.old
-        ≡ behind result.taken (listen_of largest (Hearing (record { place = Run; count = result.count })) (drop result.taken bytes.now) message.new)) }
+        ≡ behind (length bytes.now - length result.rest.now) (listen_of largest (Hearing (record { place = Run; count = result.count })) result.rest.now message.new)) }
 {
-    let mut now = count;
-    let mut taken = 0;
-    while taken < bytes.len() && is_plain(bytes[taken]) {
-        let place = Place::Run;
-        let got = receive(
-            largest,
-            Receiver { place, count: now },
-            bytes[taken],
-            message,
-        );
-        let after = got.receiver;
-        now = after.count;
-        taken += 1;
+    for (taken, byte) in bytes.iter().enumerate() {
+        if !is_plain(*byte) {
+            return Stretch {
+                count,
+                rest: &bytes[taken..],
+            };
+        }
+        let run = Receiver {
+            place: Place::Run,
+            count,
+        };
+        count = receive(largest, run, *byte, message).receiver.count;
     }
-    Stretch { count: now, taken }
+    Stretch { count, rest: &[] }
 }
 
-// The same where a run is open on a port, else none.
-fn plain_on(largest: u16, port: Port, bytes: &[u8], message: &mut [u8]) -> Listened
-    ensures { (result.taken ≤ length bytes.now)
+// The same where a run is open on a port, else none. Each place has an arm of its own: with one for the three a byte of a run that is thrown away
+// takes 19 instructions, and so 13.
+fn plain_on<'a>(largest: u16, port: Port, bytes: &'a [u8], message: &mut [u8]) -> Left<'a>
+    ensures { (length result.rest.now ≤ length bytes.now)
         × (listen_of largest port bytes.now message.old
-        ≡ behind result.taken (listen_of largest result.port (drop result.taken bytes.now) message.new)) }
+        ≡ behind (length bytes.now - length result.rest.now) (listen_of largest result.port result.rest.now message.new)) }
 {
     match port {
-        Port::Hearing(receiver) => {
-            let place = receiver.place;
-            match place {
-                Place::Run => {
-                    let run = plain(largest, receiver.count, bytes, message);
-                    Listened {
-                        port: Port::Hearing(Receiver {
-                            place: Place::Run,
-                            count: run.count,
-                        }),
-                        taken: run.taken,
-                    }
+        Port::Hearing(receiver) => match receiver.place {
+            Place::Run => {
+                let run = plain(largest, receiver.count, bytes, message);
+                Left {
+                    port: Port::Hearing(Receiver {
+                        place: Place::Run,
+                        count: run.count,
+                    }),
+                    rest: run.rest,
                 }
-                Place::Fresh => Listened { port, taken: 0 },
-                Place::Escape => Listened { port, taken: 0 },
-                Place::Fault => Listened { port, taken: 0 },
             }
-        }
-        Port::Throwing(_) => Listened { port, taken: 0 },
+            Place::Fresh => Left { port, rest: bytes },
+            Place::Escape => Left { port, rest: bytes },
+            Place::Fault => Left { port, rest: bytes },
+        },
+        Port::Throwing(_) => Left { port, rest: bytes },
     }
 }
 
@@ -103,16 +101,20 @@ fn listen(largest: u16, port: Port, bytes: &[u8], message: &mut [u8]) -> Listene
     ensures { listening_of result message.new ≡ listen_of largest port bytes.now message.old }
 {
     let mut now = port;
-    let mut taken = 0;
-    while taken < bytes.len() && !is_closing(now, bytes[taken]) {
-        let got = hear(largest, now, bytes[taken], message);
-        let heard = got.port;
-        let next = taken + 1;
-        let rest = plain_on(largest, heard, &bytes[next..], message);
-        now = rest.port;
-        taken = next + rest.taken;
+    let mut rest = bytes;
+    while let [byte, behind @ ..] = rest {
+        if is_closing(now, *byte) {
+            break;
+        }
+        let got = hear(largest, now, *byte, message);
+        let left = plain_on(largest, got.port, behind, message);
+        now = left.port;
+        rest = left.rest;
     }
-    Listened { port: now, taken }
+    Listened {
+        port: now,
+        taken: bytes.len() - rest.len(),
+    }
 }
 
 // The same with the message buffers of both ports.
