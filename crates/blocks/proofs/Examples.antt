@@ -5,7 +5,7 @@ use Prim.Native.Nat.{ℕ}
 use lib.ListN.{replicate}
 use Rattle.crc.specs.Sum.{bit_step, bit_steps, byte_step, sum_from, sum_of, carried}
 use Rattle.crc.specs.Joining.{joined_of, join_all}
-use Rattle.blocks.specs.declared.Found.TheVariants.{At, Outside}
+use Rattle.std.specs.Prelude.{Some, None}
 use Rattle.memory.specs.Bytes.{stored}
 use Rattle.blocks.specs.Fram.{refreshed, kept, store_of, parts_from, range_sum, place_of}
 use Rattle.blocks.specs.Cost.{how_many, range_cost}
@@ -35,24 +35,24 @@ unfolding range_sum parts_from join_all joined_of carried sum_of sum_from byte_s
 a_range_of_one_byte_less = refl
 
 -- The fitted memory is inside as a whole, and no byte before or after it is.
-pub the_whole_memory : place_of 0x20040000 256 0x20040000 256 ≡ At 0
+pub the_whole_memory : place_of 0x20040000 256 0x20040000 256 ≡ Some 0
 unfolding place_of
 the_whole_memory = refl
 
-pub its_last_byte : place_of 0x20040000 256 0x200400FF 1 ≡ At 255
+pub its_last_byte : place_of 0x20040000 256 0x200400FF 1 ≡ Some 255
 unfolding place_of
 its_last_byte = refl
 
-pub one_past_its_last_byte : place_of 0x20040000 256 0x200400FF 2 ≡ Outside
+pub one_past_its_last_byte : place_of 0x20040000 256 0x200400FF 2 ≡ None
 unfolding place_of
 one_past_its_last_byte = refl
 
-pub one_before_its_first_byte : place_of 0x20040000 256 0x2003FFFF 2 ≡ Outside
+pub one_before_its_first_byte : place_of 0x20040000 256 0x2003FFFF 2 ≡ None
 unfolding place_of
 one_before_its_first_byte = refl
 
 -- Addresses do not wrap.
-pub past_the_last_address : place_of 0 256 0xFFFFFFFF 2 ≡ Outside
+pub past_the_last_address : place_of 0 256 0xFFFFFFFF 2 ≡ None
 unfolding place_of
 past_the_last_address = refl
 

@@ -2,7 +2,7 @@
 use mathlib.Core.Path.{◌≡◌, refl, sym, ap, ap₂, ◌∙◌}
 use mathlib.Core.Bool.{Bool, true, false, cond}
 use mathlib.Core.List.{List, [], ◌∷◌, ◌++◌}
-use Prim.Native.Nat.{ℕ, zero, suc, ◌+◌, ◌-◌, ◌*◌, ◌/◌, ◌≤◌, ◌<◌, min, max}
+use Prim.Native.Nat.{ℕ, zero, suc, ◌+◌, ◌/◌, ◌≤◌, ◌<◌, min, max}
 use native.Mathlib.Nat.{add-zero, zero-add, suc-add, add-suc, not-suc-le-zero, le_of_suc-le-suc}
 use native.Mathlib.Omega.{arith}
 use borrow.Author.Tests.{lt-ltb, ltb-false}
@@ -13,12 +13,6 @@ use Rattle.memory.specs.Bytes.{stored}
 use Rattle.blocks.specs.Fram.{block_size, block_start, block, touches, fresh_from, fresh_sums, refreshed, Kept, kept, store_of}
 use Rattle.memory.proofs.Tests.{either_side}
 use Rattle.memory.proofs.Stretches.{a_store_keeps_the_length, nothing_stored, stretch_before_a_store, stretch_after_a_store}
-
--- the part from a block's start to its end
-pub block_lent : (fram : List ℕ) (k : ℕ) → sum_of (take (k * 256 + 256 - k * 256) (drop (k * 256) fram)) ≡ sum_of (block fram k)
-block_lent fram k =
-    let size : k * 256 + 256 - k * 256 ≡ block_size = omega arith in
-    rw size
 
 -- ---- place by place
 

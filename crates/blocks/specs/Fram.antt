@@ -1,12 +1,10 @@
 -- FRAM with one kept sum for each block of 256 bytes, bootloader or user: 01, "The unit and its neighbours", "Commands" (POKE, CRC) and
 -- "How tight the contracts are". Assumes nothing.
-use Rattle.std.specs.Prelude.{ℕ, zero, suc, ◌+◌, ◌-◌, ◌*◌, ◌/◌, min, max, Bool, cond, ◌&&◌, List, [], ◌∷◌, map, leb, ltb, length}
+use Rattle.std.specs.Prelude.{ℕ, zero, suc, ◌+◌, ◌-◌, ◌*◌, ◌/◌, min, max, Bool, cond, ◌&&◌, List, [], ◌∷◌, map, leb, ltb, length, Option, Some, None}
 use Rattle.crc.specs.Sum.{sum_of}
 use Rattle.crc.specs.Joining.{part_of, joined_of, join_all}
 use Rattle.crc.specs.declared.Part.{Part}
 use Rattle.memory.specs.Bytes.{stretch, stored}
-use Rattle.blocks.specs.declared.Found.{Found}
-use Rattle.blocks.specs.declared.Found.TheVariants.{At, Outside}
 
 abbrev pub block_size : ℕ
 block_size = 256
@@ -83,6 +81,6 @@ joined_blocks start sums = (joined_of (record { sum = start; len = 0 }) (join_al
 
 -- The place of a range of `count` bytes from `address` on, in a memory of `len` bytes whose first has the address `first`.
 -- A range is outside if any byte of it is; addresses do not wrap.
-unfoldable pub place_of : ℕ → ℕ → ℕ → ℕ → Found
+unfoldable pub place_of : ℕ → ℕ → ℕ → ℕ → Option ℕ
 place_of first len address count =
-    cond (leb first address && leb (address + count) (first + len)) (At (address - first)) Outside
+    cond (leb first address && leb (address + count) (first + len)) (Some (address - first)) None

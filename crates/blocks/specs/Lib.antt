@@ -1,3 +1,4 @@
 pub mod Fram
 pub mod Crossing
 pub mod Cost
+pub mod Lent

@@ -1,17 +1,10 @@
 -- What a limit is that a bus may set (02, T-06). Assumes nothing.
 use mathlib.Core.Path.{◌≡◌, refl, sym, ◌∙◌}
 use mathlib.Core.Bool.{Bool, true, false, false≢true}
-use Prim.Native.Nat.{ℕ, ◌≤◌, ◌<◌}
-use borrow.Author.Tests.{le-leb, lt-leb, leb-true}
+use Prim.Native.Nat.{ℕ, ◌≤◌}
+use borrow.Author.Tests.{leb-true}
 use lib.Dec.{leb}
 use Rattle.carrying.specs.Ending.{longest_data, least_limit, is_limit}
-
--- the way through its two tests
-pub a_limit_too_low : (limit : ℕ) → limit < least_limit → false ≡ is_limit limit
-a_limit_too_low limit low = simp (lt-leb least_limit limit low)
-
-pub a_limit_by_its_most : (limit : ℕ) → least_limit ≤ limit → leb limit longest_data ≡ is_limit limit
-a_limit_by_its_most limit least = simp (le-leb least_limit limit least)
 
 -- 260 to 1,028
 pub within_both_ends : (limit : ℕ) → is_limit limit ≡ true → (least_limit ≤ limit) × (limit ≤ longest_data)

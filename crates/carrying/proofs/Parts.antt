@@ -2,8 +2,7 @@
 use mathlib.Core.Path.{◌≡◌, refl, ap, ◌∙◌}
 use mathlib.Core.List.{List}
 use Prim.Native.Nat.{ℕ}
-use Rattle.carrying.specs.declared.Ended.{Ended}
-use Rattle.carrying.specs.Ending.{Ending, done, refused, unfitted, Left, left, leaves}
+use Rattle.carrying.specs.Ending.{Ended, Ending, done, refused, unfitted, Left, left, leaves}
 use Rattle.carrying.specs.Held.{inside}
 
 -- what is left of a part, said of the whole

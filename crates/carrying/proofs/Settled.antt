@@ -2,9 +2,8 @@
 use Prim.Native.Nat.{ℕ}
 use mathlib.Core.Path.{◌≡◌, sym, ◌∙◌, ap, ap₂}
 use mathlib.Core.List.{List}
-use Rattle.carrying.specs.declared.Ended.{Ended}
 use Rattle.carrying.specs.declared.Carried.{Carried}
-use Rattle.carrying.specs.Ending.{Ending, Left, left, leaves}
+use Rattle.carrying.specs.Ending.{Ended, Ending, Left, left, leaves}
 
 -- for the definition `o` of any command, the reply buffer and the memory that were lent to its handler
 pub a_handler_allows_one_outcome

@@ -10,8 +10,7 @@ use lib.ListN.{length, take, drop, length-drop, take-append-drop}
 use lib.Seq.{length-take-le, take_at, drop_at}
 use Rattle.memory.specs.Bytes.{stretch, stored, overlaid}
 use Rattle.memory.proofs.Overlays.{what_is_read_after_a_store, a_range_before_a_store, a_range_after_a_store}
-use Rattle.blocks.specs.declared.Found.{Found}
-use Rattle.blocks.specs.declared.Found.TheVariants.{At, Outside}
+use Rattle.std.proofs.Common.{Option, Some, None}
 use Rattle.carrying.specs.Ending.{Ending, at_place}
 use Rattle.carrying.specs.Storing.{with_data, shown_after}
 
@@ -22,10 +21,10 @@ either_way_alike f true x y x' y' p q = p refl
 either_way_alike f false x y x' y' p q = q refl
 
 -- wherever a range lies
-pub at_any_place_alike : {M : Type 0} (f : List ℕ → List ℕ) (p : Found) (g g' : ℕ → Ending M) → ((at : ℕ) → p ≡ At at → g at ≡ with_data f (g' at))
+pub at_any_place_alike : {M : Type 0} (f : List ℕ → List ℕ) (p : Option ℕ) (g g' : ℕ → Ending M) → ((at : ℕ) → p ≡ Some at → g at ≡ with_data f (g' at))
     → at_place p g ≡ with_data f (at_place p g')
-at_any_place_alike f Outside g g' each = refl
-at_any_place_alike f (At at) g g' each = each at refl
+at_any_place_alike f None g g' each = refl
+at_any_place_alike f (Some at) g g' each = each at refl
 
 -- what is shown behind an address, said by what was shown there before
 pub shown_so : (head : ℕ) (field before after : List ℕ) (over : List ℕ → List ℕ) → head ≤ length field → after ≡ over before

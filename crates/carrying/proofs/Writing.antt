@@ -9,7 +9,8 @@ use lib.Seq.{length-take-le, take-add, drop-drop, take_at, drop_at, take_all}
 use Rattle.memory.specs.Bytes.{stretch, stored, begun}
 use Rattle.memory.proofs.Stretches.{stored_first_is_begun, a_begun_buffer_goes_on, a_store_goes_on, length_of_a_stretch}
 use Rattle.field.specs.Fields.{word16_at, bytes16}
-use Rattle.carrying.specs.declared.Ended.TheVariants.{Done, Refused, Unfitted}
+use Rattle.std.proofs.Common.{Ok, Err}
+use Rattle.carrying.specs.declared.CommandError.TheVariants.{Refused, Unfitted}
 use Rattle.carrying.specs.Ending.{Ending, done, refused, unfitted, Left, left, leaves}
 
 -- a reply written in one piece
@@ -24,20 +25,20 @@ two_writes reply xs ys n e =
 -- ---- what a handler leaves, by what the command comes to
 
 pub it_is_done : {M : Type 0} (o : Ending M) (bytes buffer reply : List ℕ) (n : ℕ) (after before : M) → o ≡ done bytes after → length bytes ≡ n
-    → buffer ≡ begun reply bytes → left (Done n) buffer after ≡ leaves o reply before
+    → buffer ≡ begun reply bytes → left (Ok n) buffer after ≡ leaves o reply before
 it_is_done o bytes buffer reply n after before comes size written =
-    ap₂ (λ (m : ℕ) held. left (Done m) held after) (sym size) written ∙ ap (λ p. leaves p reply before) (sym comes)
+    ap₂ (λ (m : ℕ) held. left (Ok m) held after) (sym size) written ∙ ap (λ p. leaves p reply before) (sym comes)
 
 -- the same of a command that stores
 pub is_done_storing : {M : Type 0} (o : Ending M) (bytes buffer reply : List ℕ) (n : ℕ) (after shall before : M) → o ≡ done bytes shall → after ≡ shall
-    → length bytes ≡ n → buffer ≡ begun reply bytes → left (Done n) buffer after ≡ leaves o reply before
+    → length bytes ≡ n → buffer ≡ begun reply bytes → left (Ok n) buffer after ≡ leaves o reply before
 is_done_storing o bytes buffer reply n after shall before comes stores size written =
-    ap (λ m. left (Done n) buffer m) stores ∙ it_is_done o bytes buffer reply n shall before comes size written
+    ap (λ m. left (Ok n) buffer m) stores ∙ it_is_done o bytes buffer reply n shall before comes size written
 
-pub it_is_refused : {M : Type 0} (o : Ending M) (reply : List ℕ) (before : M) → o ≡ refused → left Refused reply before ≡ leaves o reply before
+pub it_is_refused : {M : Type 0} (o : Ending M) (reply : List ℕ) (before : M) → o ≡ refused → left (Err Refused) reply before ≡ leaves o reply before
 it_is_refused o reply before comes = ap (λ p. leaves p reply before) (sym comes)
 
-pub is_unfitted : {M : Type 0} (o : Ending M) (reply : List ℕ) (before : M) → o ≡ unfitted → left Unfitted reply before ≡ leaves o reply before
+pub is_unfitted : {M : Type 0} (o : Ending M) (reply : List ℕ) (before : M) → o ≡ unfitted → left (Err Unfitted) reply before ≡ leaves o reply before
 is_unfitted o reply before comes = ap (λ p. leaves p reply before) (sym comes)
 
 -- an outcome that another one is hands on what it leaves

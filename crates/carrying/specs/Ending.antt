@@ -1,10 +1,8 @@
 -- What a command comes to, and what its handler leaves: 01, "Commands" and "One byte in, one answer out". Assumes nothing.
-use Rattle.std.specs.Prelude.{ℕ, Bool, ◌&&◌, List, leb, length}
+use Rattle.std.specs.Prelude.{ℕ, Bool, ◌&&◌, List, leb, length, Option, Some, None, Result, Ok, Err}
 use Rattle.memory.specs.Bytes.{begun}
-use Rattle.blocks.specs.declared.Found.{Found}
-use Rattle.blocks.specs.declared.Found.TheVariants.{At, Outside}
-use Rattle.carrying.specs.declared.Ended.{Ended}
-use Rattle.carrying.specs.declared.Ended.TheVariants.{Done, Refused, Unfitted}
+use Rattle.carrying.specs.declared.CommandError.{CommandError}
+use Rattle.carrying.specs.declared.CommandError.TheVariants.{Refused, Unfitted}
 
 -- The longest data field of a message, and so of a reply, on any bus.
 abbrev pub longest_data : ℕ
@@ -25,11 +23,15 @@ pub data Ending (M : Type 0) : Type 0 where
   refused : Ending M
   unfitted : Ending M
 
--- Which of the three, as a handler says it: of what is done, how many bytes the reply's data has.
+-- What a command comes to, as a handler says it: of what is done, how many bytes the reply's data has.
+abbrev pub Ended : Type 0
+Ended = Result ℕ CommandError
+
+-- Which of the three.
 abbrev pub ended_of : {M : Type 0} → Ending M → Ended
-ended_of (done bytes after) = Done (length bytes)
-ended_of refused = Refused
-ended_of unfitted = Unfitted
+ended_of (done bytes after) = Ok (length bytes)
+ended_of refused = Err Refused
+ended_of unfitted = Err Unfitted
 
 -- What a handler leaves: what its command came to, the reply buffer and the memory that was lent to it.
 pub record Left (M : Type 0) : Type 0 where
@@ -42,11 +44,11 @@ left ended reply memory = record { ended = ended; reply = reply; memory = memory
 
 -- The reply's data is the written first part of the reply buffer. Where a command is not done, nothing is written.
 abbrev pub leaves : {M : Type 0} → Ending M → List ℕ → M → Left M
-leaves (done bytes after) reply before = left (Done (length bytes)) (begun reply bytes) after
-leaves refused reply before = left Refused reply before
-leaves unfitted reply before = left Unfitted reply before
+leaves (done bytes after) reply before = left (Ok (length bytes)) (begun reply bytes) after
+leaves refused reply before = left (Err Refused) reply before
+leaves unfitted reply before = left (Err Unfitted) reply before
 
 -- A range of memory that must be fitted.
-abbrev pub at_place : {M : Type 0} → Found → (ℕ → Ending M) → Ending M
-at_place Outside f = unfitted
-at_place (At at) f = f at
+abbrev pub at_place : {M : Type 0} → Option ℕ → (ℕ → Ending M) → Ending M
+at_place None f = unfitted
+at_place (Some at) f = f at

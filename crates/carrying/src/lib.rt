@@ -13,26 +13,25 @@ const LEAST_LIMIT: usize = 260;
 pub fn is_limit(limit: usize) -> bool
     ensures { result ≡ is_limit limit }
 {
-    if limit < LEAST_LIMIT {
-        return false;
-    }
-    limit <= LONGEST_DATA
+    (LEAST_LIMIT..=LONGEST_DATA).contains(&limit)
 }
 
 // The unit's two modes.
-#[derive(Clone, Copy)]
+#[derive(Clone, Copy, PartialEq, Eq)]
 pub enum Mode {
     Bootloader,
     Application,
 }
 
-// What a command comes to: done, with so many bytes of reply's data; refused; or an access to memory not fitted.
-#[derive(Clone, Copy)]
-pub enum Ended {
-    Done(usize),
+// Why a command is not done: refused, or an access to memory not fitted.
+#[derive(Clone, Copy, PartialEq, Eq)]
+pub enum CommandError {
     Refused,
     Unfitted,
 }
+
+// What a command comes to: done, with so many bytes of reply's data; refused; or an access to memory not fitted.
+pub type Ended = Result<usize, CommandError>;
 
 // What a command comes to, with the mode afterwards, and whether bootloader FRAM is locked.
 #[derive(Clone, Copy)]
