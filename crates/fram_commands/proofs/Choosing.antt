@@ -1,9 +1,10 @@
 -- Each command on the FRAM that its address names. Assumes nothing.
-use mathlib.Core.Path.{◌≡◌, ap}
+use mathlib.Core.Path.{◌≡◌, sym, ap, ap₂}
 use mathlib.Core.Bool.{Bool, true, false}
 use mathlib.Core.List.{List}
 use Prim.Native.Nat.{ℕ}
 use lib.Dec.{ltb}
+use Rattle.blocks.specs.Fram.{Kept}
 use Rattle.field.specs.Fields.{word32_at}
 use Rattle.carrying.specs.Held.{Frams, Which, of_bootloader, of_user, one_of, fram_of, with_fram, inside}
 use Rattle.fram_commands.specs.Windows.{first_of_user, first_of, which_of}
@@ -33,3 +34,15 @@ module _ (field : List ℕ) (which : Which) (named : which_of field ≡ which) w
   pub a_crc_where_it_is_named : (now : Frams) → crc_by_address now field ≡ crc_of (first_of which) (fram_of which now) field
   unfolding crc_by_address
   a_crc_where_it_is_named now = ap (λ (x : Which). crc_of (first_of x) (fram_of x now) field) named
+
+-- by the code's one choice: what is read of the one that is chosen is the one of what is read of both
+pub read_of_the_one : {A B : Type 0} (read : A → B) (which : Which) (one : A) (bootloader's user's : A) → one ≡ one_of which bootloader's user's
+    → read one ≡ one_of which (read bootloader's) (read user's)
+read_of_the_one read of_bootloader one bootloader's user's e = ap read e
+read_of_the_one read of_user one bootloader's user's e = ap read e
+
+module _ (field : List ℕ) (first : ℕ) (starts : first ≡ first_of (which_of field)) where
+  pub a_peek_of_the_one : (room : ℕ) (fram bootloader user : List ℕ) → fram ≡ one_of (which_of field) bootloader user
+      → peek_by_address room bootloader user field ≡ peek_of room first fram field
+  unfolding peek_by_address
+  a_peek_of_the_one room fram bootloader user e = ap₂ (λ (n : ℕ) held. peek_of room n held field) (sym starts) (sym e)

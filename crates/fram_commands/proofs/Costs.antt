@@ -5,8 +5,7 @@ use Prim.Native.Nat.{ℕ, ◌+◌, ◌-◌, ◌≤◌}
 use native.Mathlib.Omega.{arith}
 use lib.Dec.{eqb, ltb}
 use lib.ListN.{length}
-use Rattle.blocks.specs.declared.Found.{Found}
-use Rattle.blocks.specs.declared.Found.TheVariants.{At, Outside}
+use Rattle.std.proofs.Common.{Option, Some, None}
 use Rattle.blocks.specs.Fram.{Kept, block_start, place_of, range_sum}
 use Rattle.blocks.specs.Cost.{range_cost}
 use Rattle.blocks.proofs.Counting.{no_range_costs_more, a_range_costs_something}
@@ -22,12 +21,12 @@ use Rattle.fram_commands.proofs.Ways.{a_place_is_where_its_address_says}
 
 -- by the code's steps
 pub the_cost_by_addresses : (field : List ℕ) (from last first at more cost : ℕ) → from ≡ word32_at field 0 → last ≡ word32_at field 4
-    → first ≡ first_of (which_of field) → at ≡ from - first → more ≡ last - from → cost ≡ range_cost at (at + more + 1) → cost ≡ field_cost field
+    → first ≡ first_of (which_of field) → at ≡ from - first → more ≡ last - from → cost ≡ range_cost at (at + (more + 1)) → cost ≡ field_cost field
 unfolding field_cost
 the_cost_by_addresses field from last first at more cost ef el eb ea em e =
     let start : at ≡ word32_at field 0 - first_of (which_of field) = ea ∙ ap₂ (λ (a b : ℕ). a - b) ef eb in
     let size : more + 1 ≡ range_size (word32_at field 0) (word32_at field 4) = ap (λ (n : ℕ). n + 1) (em ∙ ap₂ (λ (a b : ℕ). a - b) el ef) in
-    let end : at + more + 1 ≡ at + range_size (word32_at field 0) (word32_at field 4) = omega (arith, size) in
+    let end : at + (more + 1) ≡ at + range_size (word32_at field 0) (word32_at field 4) = omega (arith, size) in
     e ∙ ap (range_cost at) end ∙ ap (λ (n : ℕ). range_cost n (n + range_size (word32_at field 0) (word32_at field 4))) start
 
 -- ---- the ceiling
@@ -40,7 +39,7 @@ module _ (first : ℕ) (memory : Kept) (field : List ℕ) (named : first_of (whi
   abbrev size : ℕ
   size = range_size (word32_at field 0) (word32_at field 4)
 
-  inside_costs : (at : ℕ) → place_of first (length memory.fram) (word32_at field 0) size ≡ At at → field_cost field ≤ blocks + 508
+  inside_costs : (at : ℕ) → place_of first (length memory.fram) (word32_at field 0) size ≡ Some at → field_cost field ≤ blocks + 508
   unfolding field_cost
   inside_costs at found =
       let there = a_place_is_where_its_address_says first (length memory.fram) (word32_at field 0) size at found in
@@ -56,10 +55,10 @@ module _ (first : ℕ) (memory : Kept) (field : List ℕ) (named : first_of (whi
       (λ _. placed (place_of first (length memory.fram) (word32_at field 0) size) refl)))
       (λ _. omega arith)
     where
-      placed : (p : Found) → place_of first (length memory.fram) (word32_at field 0) size ≡ p
+      placed : (p : Option ℕ) → place_of first (length memory.fram) (word32_at field 0) size ≡ p
           → AtMost (at_place p (λ at. done (field ++ bytes16 (range_sum memory at (at + size))) tt))
-      placed Outside e = omega arith
-      placed (At at) e = inside_costs at e
+      placed None e = omega arith
+      placed (Some at) e = inside_costs at e
 
 -- A CRC command costs at most 508 above the number of blocks of the FRAM that its address names.
 pub what_a_crc_costs_at_most : (now : Frams) (field : List ℕ) → length now.bootloader.fram ≡ block_start (length now.bootloader.sums)

@@ -13,7 +13,8 @@ use Rattle.fram_commands.specs.Poke.{poke_of}
 use Rattle.fram_commands.specs.Crc.{crc_of}
 use Rattle.fram_commands.specs.ByAddress.{peek_by_address, poke_by_address, crc_by_address}
 use Rattle.blocks.specs.Cost.{how_many, range_cost}
-use Rattle.carrying.specs.declared.Ended.TheVariants.{Done, Refused, Unfitted}
+use Rattle.std.proofs.Common.{Ok, Err}
+use Rattle.carrying.specs.declared.CommandError.TheVariants.{Refused, Unfitted}
 use Rattle.fram_commands.specs.Cost.{field_cost, crc_cost}
 
 abbrev pub fram : List ℕ
@@ -82,15 +83,15 @@ a_poke_of_user_fram = refl
 -- ---- 02, T-13: what a CRC command costs, by places in the FRAM that its address names
 
 -- Of user FRAM: its first block; from its second byte to the last of that block; and two bytes across the block's edge.
-pub costs_of_user_fram : (crc_cost (Done 10) (0x00 ∷ 0x00 ∷ 0x04 ∷ 0x20 ∷ 0xFF ∷ 0x00 ∷ 0x04 ∷ 0x20 ∷ []) ≡ 1)
-    × (crc_cost (Done 10) (0x01 ∷ 0x00 ∷ 0x04 ∷ 0x20 ∷ 0xFF ∷ 0x00 ∷ 0x04 ∷ 0x20 ∷ []) ≡ 255)
-    × (crc_cost (Done 10) (0xFF ∷ 0x00 ∷ 0x04 ∷ 0x20 ∷ 0x00 ∷ 0x01 ∷ 0x04 ∷ 0x20 ∷ []) ≡ 2)
+pub costs_of_user_fram : (crc_cost (Ok 10) (0x00 ∷ 0x00 ∷ 0x04 ∷ 0x20 ∷ 0xFF ∷ 0x00 ∷ 0x04 ∷ 0x20 ∷ []) ≡ 1)
+    × (crc_cost (Ok 10) (0x01 ∷ 0x00 ∷ 0x04 ∷ 0x20 ∷ 0xFF ∷ 0x00 ∷ 0x04 ∷ 0x20 ∷ []) ≡ 255)
+    × (crc_cost (Ok 10) (0xFF ∷ 0x00 ∷ 0x04 ∷ 0x20 ∷ 0x00 ∷ 0x01 ∷ 0x04 ∷ 0x20 ∷ []) ≡ 2)
 unfolding field_cost range_cost how_many
 costs_of_user_fram = (refl, refl, refl)
 
 -- Of bootloader FRAM: two blocks and three bytes; the same not done.
-pub costs_of_bootloader_fram : (crc_cost (Done 10) (0x00 ∷ 0x00 ∷ 0x00 ∷ 0x20 ∷ 0x02 ∷ 0x02 ∷ 0x00 ∷ 0x20 ∷ []) ≡ 5)
-    × (crc_cost Refused (0x00 ∷ 0x00 ∷ 0x00 ∷ 0x20 ∷ 0x02 ∷ 0x02 ∷ 0x00 ∷ 0x20 ∷ []) ≡ 0)
-    × (crc_cost Unfitted (0x00 ∷ 0x00 ∷ 0x00 ∷ 0x20 ∷ 0x02 ∷ 0x02 ∷ 0x00 ∷ 0x20 ∷ []) ≡ 0)
+pub costs_of_bootloader_fram : (crc_cost (Ok 10) (0x00 ∷ 0x00 ∷ 0x00 ∷ 0x20 ∷ 0x02 ∷ 0x02 ∷ 0x00 ∷ 0x20 ∷ []) ≡ 5)
+    × (crc_cost (Err Refused) (0x00 ∷ 0x00 ∷ 0x00 ∷ 0x20 ∷ 0x02 ∷ 0x02 ∷ 0x00 ∷ 0x20 ∷ []) ≡ 0)
+    × (crc_cost (Err Unfitted) (0x00 ∷ 0x00 ∷ 0x00 ∷ 0x20 ∷ 0x02 ∷ 0x02 ∷ 0x00 ∷ 0x20 ∷ []) ≡ 0)
 unfolding field_cost range_cost how_many
 costs_of_bootloader_fram = (refl, refl, refl)

@@ -9,8 +9,7 @@ use lib.Dec.{eqb, ltb}
 use lib.ListN.{length, take, drop, get_or, length-append}
 use Rattle.field.specs.Fields.{word16_at, word32_at, bytes16, short_count}
 use Rattle.memory.specs.Bytes.{stretch}
-use Rattle.blocks.specs.declared.Found.{Found}
-use Rattle.blocks.specs.declared.Found.TheVariants.{At, Outside}
+use Rattle.std.proofs.Common.{Option, Some, None}
 use Rattle.blocks.specs.Fram.{Kept, place_of, store_of, range_sum}
 use Rattle.carrying.specs.Ending.{Ending, done, refused, at_place}
 use Rattle.carrying.specs.Held.{Frams, one_of, fram_of, with_fram}
@@ -27,9 +26,9 @@ module _ (room : ℕ) where
   of_a_range {M} first len address count f each =
       either_way (Roomy room) (over_border address count) refused _ (λ _. omega arith) (λ _. placed (place_of first len address count))
     where
-      placed : (p : Found) → Roomy room (at_place p f)
-      placed Outside = omega arith
-      placed (At at) = each at
+      placed : (p : Option ℕ) → Roomy room (at_place p f)
+      placed None = omega arith
+      placed (Some at) = each at
 
   peek_range_fits : (first : ℕ) (fram field : List ℕ) (count : ℕ) → Roomy room (peek_range_of room first fram field count)
   unfolding peek_range_of

@@ -11,8 +11,7 @@ use Rattle.memory.specs.Bytes.{stretch, stored, overlaid}
 use Rattle.memory.proofs.Stretches.{a_store_keeps_the_length, stretch_of_a_store}
 use Rattle.memory.proofs.Overlays.{counted_from_another_place}
 use Rattle.blocks.specs.Fram.{Kept, place_of, store_of}
-use Rattle.blocks.specs.declared.Found.{Found}
-use Rattle.blocks.specs.declared.Found.TheVariants.{At, Outside}
+use Rattle.std.proofs.Common.{Option, Some, None}
 use Rattle.field.specs.Fields.{word16_at, word32_at, bytes16, bytes32, short_count}
 use Rattle.field.proofs.Words.{two_bytes}
 use Rattle.carrying.specs.Ending.{done, refused, at_place}
@@ -29,7 +28,7 @@ pub record Poked (room first : ℕ) (locked : Bool) (memory : Kept) (field reply
   pub fits : length field ≤ room
   pub border : over_border (word32_at field 0) (length field - 4) ≡ false
   pub at : ℕ
-  pub found : place_of first (length memory.fram) (word32_at field 0) (length field - 4) ≡ At at
+  pub found : place_of first (length memory.fram) (word32_at field 0) (length field - 4) ≡ Some at
   pub stores : cond locked memory (store_of memory at (drop 4 field)) ≡ after
 
 pub a_poke_that_was_done : (room first : ℕ) (locked : Bool) (memory : Kept) (field reply : List ℕ) (after : Kept) → poke_of room first locked memory field ≡ done reply after
@@ -39,7 +38,7 @@ a_poke_that_was_done room first locked memory field reply after e =
     apart (ltb (length field) 5) (ltb room (length field)) (over_border (word32_at field 0) (length field - 4))
     (place_of first (length memory.fram) (word32_at field 0) (length field - 4)) refl refl refl refl e
   where
-    apart : (short long over : Bool) (p : Found) → ltb (length field) 5 ≡ short → ltb room (length field) ≡ long
+    apart : (short long over : Bool) (p : Option ℕ) → ltb (length field) 5 ≡ short → ltb room (length field) ≡ long
         → over_border (word32_at field 0) (length field - 4) ≡ over
         → place_of first (length memory.fram) (word32_at field 0) (length field - 4) ≡ p
         → cond short refused (cond long refused (cond over refused (at_place p (λ at. done field (cond locked memory (store_of memory at (drop 4 field))))))) ≡ done reply after
@@ -47,8 +46,8 @@ a_poke_that_was_done room first locked memory field reply after e =
     apart true long over p es el eo ep came = let z : ◌≡◌ {A = ℕ} 0 1 = cc in absurd (omega arith)
     apart false true over p es el eo ep came = let z : ◌≡◌ {A = ℕ} 0 1 = cc in absurd (omega arith)
     apart false false true p es el eo ep came = let z : ◌≡◌ {A = ℕ} 0 1 = cc in absurd (omega arith)
-    apart false false false Outside es el eo ep came = let z : ◌≡◌ {A = ℕ} 0 1 = cc in absurd (omega arith)
-    apart false false false (At at) es el eo ep came = record {
+    apart false false false None es el eo ep came = let z : ◌≡◌ {A = ℕ} 0 1 = cc in absurd (omega arith)
+    apart false false false (Some at) es el eo ep came = record {
       some = ltb-false (length field) 5 es;
       fits = ltb-false room (length field) el;
       border = eo;
@@ -80,7 +79,7 @@ module _ (room first : ℕ) (memory : Kept) (poke reply : List ℕ) (after : Kep
   size_after = ap length fram_after ∙ a_store_keeps_the_length memory.fram poked.at (drop 4 poke) inside
 
   -- what a PEEK shows at a place, by the address that it asked for
-  shown : (field : List ℕ) (count at : ℕ) → 4 ≤ length field → place_of first (length memory.fram) (word32_at field 0) count ≡ At at
+  shown : (field : List ℕ) (count at : ℕ) → 4 ≤ length field → place_of first (length memory.fram) (word32_at field 0) count ≡ Some at
       → take 4 field ++ stretch at count after.fram
       ≡ shown_after 4 (word32_at poke 0) (drop 4 poke) (word32_at field 0) (take 4 field ++ stretch at count memory.fram)
   shown field count at whole found =
@@ -126,7 +125,7 @@ what_was_poked_is_peeked room first memory address bytes reply after came few as
     let field = bytes32 address ++ bytes16 (length bytes) in
     let known = a_poke_that_was_done room first false memory poke reply after came in
     let size : length poke - 4 ≡ length bytes = omega arith in
-    let found : place_of first (length after.fram) (word32_at field 0) (length bytes) ≡ At known.at
+    let found : place_of first (length after.fram) (word32_at field 0) (length bytes) ≡ Some known.at
     = ap₂ (λ (l n : ℕ). place_of first l (word32_at field 0) n) (size_after room first memory poke reply after came) (sym size) ∙ known.found in
     let start : known.at ≤ length memory.fram = omega (arith, inside room first memory poke reply after came) in
     peek_long asked first after.fram field (length bytes) (λ e. omega arith) refl (sym (two_bytes (length bytes) few))

@@ -9,8 +9,11 @@ use lib.Dec.{leb}
 use lib.ListN.{length, take, drop, get_or}
 use Rattle.memory.specs.Bytes.{stretch}
 use Rattle.blocks.specs.Fram.{Kept, place_of, store_of, range_sum}
-use Rattle.blocks.specs.declared.Found.TheVariants.{At, Outside}
-use Rattle.carrying.specs.Ending.{done, refused, unfitted}
+use Rattle.std.proofs.Common.{Option, Some, None, Err, IsErrAnd, ok_or, ap, ◌∙◌}
+use Rattle.std.proofs.lemmas.Result.{err_from_is_err_and}
+use Rattle.carrying.specs.declared.CommandError.{CommandError}
+use Rattle.carrying.specs.declared.CommandError.TheVariants.{Unfitted}
+use Rattle.carrying.specs.Ending.{Ended, done, refused, unfitted}
 use Rattle.field.specs.Fields.{word16_at, word32_at, bytes16, short_count}
 use Rattle.fram_commands.specs.Windows.{over_border}
 use Rattle.fram_commands.specs.Peek.{peek_range_of, peek_of}
@@ -20,13 +23,13 @@ use Rattle.fram_commands.specs.Crc.{range_size, crc_of}
 -- ---- a place in FRAM
 
 -- a place lies inside, as far from the first byte as its address says
-pub a_place_is_where_its_address_says : (first len address count at : ℕ) → place_of first len address count ≡ At at
+pub a_place_is_where_its_address_says : (first len address count at : ℕ) → place_of first len address count ≡ Some at
     → (first + at ≡ address) × (at + count ≤ len)
 unfolding place_of
 a_place_is_where_its_address_says first len address count at found =
     apart (leb first address) (leb (address + count) (first + len)) refl refl found
   where
-    apart : (a b : Bool) → leb first address ≡ a → leb (address + count) (first + len) ≡ b → cond (a && b) (At (address - first)) Outside ≡ At at
+    apart : (a b : Bool) → leb first address ≡ a → leb (address + count) (first + len) ≡ b → cond (a && b) (Some (address - first)) None ≡ Some at
         → (first + at ≡ address) × (at + count ≤ len)
     apart true true ea eb e =
         let there : address - first ≡ at = cc in
@@ -36,8 +39,14 @@ a_place_is_where_its_address_says first len address count at found =
     apart true false ea eb e = let z : ◌≡◌ {A = ℕ} 0 1 = cc in absurd (omega arith)
     apart false b ea eb e = let z : ◌≡◌ {A = ℕ} 0 1 = cc in absurd (omega arith)
 
-pub a_place_lies_inside : (first len address count at : ℕ) → place_of first len address count ≡ At at → at + count ≤ len
+pub a_place_lies_inside : (first len address count at : ℕ) → place_of first len address count ≡ Some at → at + count ≤ len
 a_place_lies_inside first len address count at found = (a_place_is_where_its_address_says first len address count at found).1
+
+-- what a function hands back that asks for a place where there is none
+pub is_not_fitted : (r : Ended) (error : CommandError) (place : Option ℕ) → IsErrAnd r (λ given. given ≡ error) → Err error ≡ ok_or place Unfitted → place ≡ None
+    → r ≡ Err Unfitted
+is_not_fitted r error place hands e none =
+    let p = err_from_is_err_and r hands in p.1 ∙ ap Err p.2 ∙ e ∙ ap (λ found. ok_or found Unfitted) none
 
 -- ---- PEEK
 
@@ -55,11 +64,11 @@ module _ (room first : ℕ) (fram field : List ℕ) (count : ℕ) (some : count 
   peek_over_the_border over = simp (ne_eqb count 0 some, le-ltb room (4 + count) fits, over)
 
   module _ (border : over_border (word32_at field 0) count ≡ false) where
-    pub peek_outside : place_of first (length fram) (word32_at field 0) count ≡ Outside → peek_range_of room first fram field count ≡ unfitted
+    pub peek_outside : place_of first (length fram) (word32_at field 0) count ≡ None → peek_range_of room first fram field count ≡ unfitted
     unfolding peek_range_of
     peek_outside there = simp (ne_eqb count 0 some, le-ltb room (4 + count) fits, border, there)
 
-    pub peek_inside : (at : ℕ) → place_of first (length fram) (word32_at field 0) count ≡ At at
+    pub peek_inside : (at : ℕ) → place_of first (length fram) (word32_at field 0) count ≡ Some at
         → peek_range_of room first fram field count ≡ done (take 4 field ++ stretch at count fram) tt
     unfolding peek_range_of
     peek_inside at there = simp (ne_eqb count 0 some, le-ltb room (4 + count) fits, border, there)
@@ -95,11 +104,11 @@ module _ (room first : ℕ) (locked : Bool) (memory : Kept) (field : List ℕ) (
   poke_over_the_border over = simp (le-ltb (length field) 5 some, le-ltb room (length field) fits, over)
 
   module _ (border : over_border (word32_at field 0) (length field - 4) ≡ false) where
-    pub poke_outside : place_of first (length memory.fram) (word32_at field 0) (length field - 4) ≡ Outside → poke_of room first locked memory field ≡ unfitted
+    pub poke_outside : place_of first (length memory.fram) (word32_at field 0) (length field - 4) ≡ None → poke_of room first locked memory field ≡ unfitted
     unfolding poke_of
     poke_outside there = simp (le-ltb (length field) 5 some, le-ltb room (length field) fits, border, there)
 
-    pub poke_inside : (at : ℕ) → place_of first (length memory.fram) (word32_at field 0) (length field - 4) ≡ At at
+    pub poke_inside : (at : ℕ) → place_of first (length memory.fram) (word32_at field 0) (length field - 4) ≡ Some at
         → poke_of room first locked memory field ≡ done field (cond locked memory (store_of memory at (drop 4 field)))
     unfolding poke_of
     poke_inside at there = simp (le-ltb (length field) 5 some, le-ltb room (length field) fits, border, there)
@@ -120,11 +129,11 @@ module _ (first : ℕ) (memory : Kept) (field : List ℕ) (eight : length field 
   crc_over_the_border over = simp (eq-eqb (length field) 8 eight, le-ltb (word32_at field 4) (word32_at field 0) forward, over)
 
   module _ (border : over_border (word32_at field 0) (range_size (word32_at field 0) (word32_at field 4)) ≡ false) where
-    pub crc_outside : place_of first (length memory.fram) (word32_at field 0) (range_size (word32_at field 0) (word32_at field 4)) ≡ Outside → crc_of first memory field ≡ unfitted
+    pub crc_outside : place_of first (length memory.fram) (word32_at field 0) (range_size (word32_at field 0) (word32_at field 4)) ≡ None → crc_of first memory field ≡ unfitted
     unfolding crc_of
     crc_outside there = simp (eq-eqb (length field) 8 eight, le-ltb (word32_at field 4) (word32_at field 0) forward, border, there)
 
-    pub crc_inside : (at : ℕ) → place_of first (length memory.fram) (word32_at field 0) (range_size (word32_at field 0) (word32_at field 4)) ≡ At at
+    pub crc_inside : (at : ℕ) → place_of first (length memory.fram) (word32_at field 0) (range_size (word32_at field 0) (word32_at field 4)) ≡ Some at
         → crc_of first memory field ≡ done (field ++ bytes16 (range_sum memory at (at + range_size (word32_at field 0) (word32_at field 4)))) tt
     unfolding crc_of
     crc_inside at there = simp (eq-eqb (length field) 8 eight, le-ltb (word32_at field 4) (word32_at field 0) forward, border, there)

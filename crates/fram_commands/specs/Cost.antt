@@ -1,8 +1,7 @@
 -- What a CRC command costs, as a count: 02, T-13. Assumes nothing.
-use Rattle.std.specs.Prelude.{ℕ, ◌+◌, ◌-◌, List}
+use Rattle.std.specs.Prelude.{ℕ, ◌+◌, ◌-◌, List, Ok, Err}
 use Rattle.blocks.specs.Cost.{range_cost}
-use Rattle.carrying.specs.declared.Ended.{Ended}
-use Rattle.carrying.specs.declared.Ended.TheVariants.{Done, Refused, Unfitted}
+use Rattle.carrying.specs.Ending.{Ended}
 use Rattle.field.specs.Fields.{word32_at}
 use Rattle.fram_commands.specs.Windows.{first_of, which_of}
 use Rattle.fram_commands.specs.Crc.{range_size}
@@ -14,6 +13,5 @@ field_cost field =
 
 -- A CRC command that is done costs what its range does, and any other nothing.
 abbrev pub crc_cost : Ended → List ℕ → ℕ
-crc_cost (Done size) field = field_cost field
-crc_cost Refused field = 0
-crc_cost Unfitted field = 0
+crc_cost (Ok size) field = field_cost field
+crc_cost (Err error) field = 0

@@ -4,8 +4,7 @@ ghost use Rattle.carrying.specs.Ending.{left, leaves};
 ghost use Rattle.fram_commands.specs.Peek.{peek_range_of, peek_of};
 
 use crate::windows::is_over_border;
-use blocks::Found;
-use carrying::Ended;
+use carrying::{CommandError, Ended};
 use field::fields::{short_count, word16, word32};
 use memory::bytes::put;
 
@@ -22,39 +21,24 @@ fn peek_range(
     ensures { left result reply.new tt
         ≡ leaves (peek_range_of room first fram.now field.now count) reply.old tt }
 {
-    if count == 0 {
-        return Ended::Refused;
-    }
-    if room < 4 + count {
-        return Ended::Refused;
-    }
     let address = word32(field, 0);
-    if is_over_border(address, count) {
-        return Ended::Refused;
+    if count == 0 || room < 4 + count || is_over_border(address, count) {
+        return Err(CommandError::Refused);
     }
-    let found = blocks::place(first, fram.len(), address, count);
-    match found {
-        Found::Outside => Ended::Unfitted,
-        Found::At(at) => {
-            let end = at + count;
-            put(&field[0..4], reply, 0);
-            put(&fram[at..end], reply, 4);
-            Ended::Done(4 + count)
-        }
-    }
+    let at = blocks::place(first, fram.len(), address, count).ok_or(CommandError::Unfitted)?;
+    put(&field[..4], reply, 0);
+    put(&fram[at..at + count], reply, 4);
+    Ok(4 + count)
 }
 
 pub fn peek(room: usize, first: u32, fram: &[u8], field: &[u8], reply: &mut [u8]) -> Ended
     requires { room ≤ length reply.old }
     ensures { left result reply.new tt ≡ leaves (peek_of room first fram.now field.now) reply.old tt }
 {
-    if field.len() == 5 {
-        let count = short_count(field[4]) as usize;
-        return peek_range(room, first, fram, field, count, reply);
-    }
-    if field.len() == 6 {
-        let count = word16(field, 4) as usize;
-        return peek_range(room, first, fram, field, count, reply);
-    }
-    Ended::Refused
+    let count = match field.len() {
+        5 => usize::from(short_count(field[4])),
+        6 => usize::from(word16(field, 4)),
+        _ => return Err(CommandError::Refused),
+    };
+    peek_range(room, first, fram, field, count, reply)
 }

@@ -5,8 +5,7 @@ ghost use Rattle.carrying.specs.Ending.{left, leaves};
 ghost use Rattle.fram_commands.specs.Crc.{crc_of};
 
 use crate::windows::is_over_border;
-use blocks::Found;
-use carrying::Ended;
+use carrying::{CommandError, Ended};
 use field::fields::word32;
 use memory::bytes::put;
 
@@ -17,26 +16,20 @@ pub fn range_crc(first: u32, fram: &[u8], sums: &[u16], field: &[u8], reply: &mu
         ≡ leaves (crc_of first (kept fram.now sums.now) field.now) reply.old tt }
 {
     if field.len() != 8 {
-        return Ended::Refused;
+        return Err(CommandError::Refused);
     }
     let from = word32(field, 0);
     let last = word32(field, 4);
     if last < from {
-        return Ended::Refused;
+        return Err(CommandError::Refused);
     }
-    let count = ((last - from) as usize) + 1;
+    let count = (last - from) as usize + 1;
     if is_over_border(from, count) {
-        return Ended::Refused;
+        return Err(CommandError::Refused);
     }
-    let found = blocks::place(first, fram.len(), from, count);
-    match found {
-        Found::Outside => Ended::Unfitted,
-        Found::At(at) => {
-            let sum = blocks::range_sum(fram, sums, at, at + count);
-            let shown = [(sum % 256) as u8, (sum / 256 % 256) as u8];
-            put(field, reply, 0);
-            put(&shown, reply, 8);
-            Ended::Done(10)
-        }
-    }
+    let at = blocks::place(first, fram.len(), from, count).ok_or(CommandError::Unfitted)?;
+    let sum = blocks::range_sum(fram, sums, at, at + count);
+    put(field, reply, 0);
+    put(&sum.to_le_bytes(), reply, 8);
+    Ok(10)
 }

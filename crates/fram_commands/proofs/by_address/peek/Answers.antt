@@ -1,16 +1,13 @@
 -- `fram_commands::by_address::peek` meets its contract: the command on the FRAM that its address names. Assumes nothing.
-use mathlib.Core.Path.{sym, ◌∙◌}
+use Rattle.fram_commands.specs.Windows.{which_of}
 use Rattle.carrying.proofs.Writing.{is_the_same}
-use Rattle.fram_commands.proofs.Choosing.{names_bootloader, names_user, a_peek_where_it_is_named}
-use Rattle.carrying.specs.Held.{of_bootloader, of_user}
+use Rattle.fram_commands.proofs.Choosing.{read_of_the_one, a_peek_of_the_one}
 use Rattle.fram_commands.proofs.by_address.peek.Goals as goal
-
-pub returns-then-is_bootloaders : goal.returns-then-is_bootloaders
-returns-then-is_bootloaders c =
-    let a = c.args in
-    is_the_same _ _ _ _ tt (a_peek_where_it_is_named a.field.now of_bootloader (names_bootloader a.field.now (sym c.is_bootloaders.ensures ∙ c.if-is_bootloaders.true)) _ _ _) c.peek.ensures
 
 pub returns : goal.returns
 returns c =
     let a = c.args in
-    is_the_same _ _ _ _ tt (a_peek_where_it_is_named a.field.now of_user (names_user a.field.now (sym c.is_bootloaders.ensures ∙ c.if-is_bootloaders.false)) _ _ _) c.peek-2.ensures
+    let is = c.chosen-first.ensures in
+    is_the_same _ _ _ _ tt
+    (a_peek_of_the_one a.field.now _ is.first a.room _ _ _ (read_of_the_one (λ fram. fram.now) (which_of a.field.now) c.chosen-first.result.1 a.bootloader a.user is.one))
+    c.peek.ensures

@@ -10,7 +10,7 @@ returns-then-is_bootloaders c =
     let a = c.args in
     is_the_same _ _ _ _ tt (a_crc_where_it_is_named a.field.now of_bootloader (names_bootloader a.field.now (sym c.is_bootloaders.ensures ∙ c.if-is_bootloaders.true)) _) c.range_crc.ensures
 
-pub returns : goal.returns
-returns c =
+pub returns-else-is_bootloaders : goal.returns-else-is_bootloaders
+returns-else-is_bootloaders c =
     let a = c.args in
-    is_the_same _ _ _ _ tt (a_crc_where_it_is_named a.field.now of_user (names_user a.field.now (sym c.is_bootloaders.ensures ∙ c.if-is_bootloaders.false)) _) c.range_crc-2.ensures
+    is_the_same _ _ _ _ tt (a_crc_where_it_is_named a.field.now of_user (names_user a.field.now (sym c.is_bootloaders.ensures ∙ c.if-is_bootloaders.false)) _) c.range_crc-else-is_bootloaders.ensures
