@@ -17,7 +17,7 @@ use Rattle.carrying.proofs.Room.{either_way, Roomy, part}
 use Rattle.edac_commands.specs.ReadEdac.{read_edac_range_of, read_edac_of}
 use Rattle.edac_commands.specs.WriteEdac.{written_edac, write_edac_of}
 use Rattle.edac_commands.specs.Gather.{ranges, ranges_hold, ranges_width, ranges_shown, gather_of}
-use Rattle.edac_commands.proofs.Lists.{at_least_one, holding_is_whole, ranges_width_turn, ranges_shown_turn}
+use Rattle.edac_commands.proofs.Lists.{at_least_one, holding_is_whole, a_range_stands}
 
 -- a head of the data field, then bytes of EDAC memory
 pub head_then_bytes : (head count : ℕ) (field bytes : List ℕ) → length (take head field ++ take count bytes) ≤ head + count
@@ -32,11 +32,12 @@ the_ranges_shown edac field hold =
     by_structures (λ _. 4) at_least_one field (λ at. length (ranges_shown edac (ranges (drop at field))) ≤ ranges_width (ranges (drop at field)))
     (λ at h. rw (list_ends (λ _. 4) field at h) (omega arith))
     (λ at h fits more.
-    let shown = ap length (ranges_shown_turn field at (at + 4) refl fits edac) in
-    let both =
-    length-append (stretch at 4 field ++ stretch (word16_at field at) (word16_at field (at + 2)) edac) (ranges_shown edac (ranges (drop (at + 4) field))) in
-    let here = head_then_bytes 4 (word16_at field (at + 2)) (drop at field) (drop (word16_at field at) edac) in
-    let width = ranges_width_turn field at (at + 4) refl fits in
+    let turn = a_range_stands field field at (at + 4) h refl refl fits in
+    let range = take (at + 4 - at) (drop at field) in
+    let shown = ap (λ l. length (ranges_shown edac l)) turn in
+    let width = ap ranges_width turn in
+    let both = length-append (range ++ stretch (word16_at range 0) (word16_at range 2) edac) (ranges_shown edac (ranges (drop (at + 4) field))) in
+    let here = head_then_bytes (at + 4 - at) (word16_at range 2) (drop at field) (drop (word16_at range 0) edac) in
     omega arith)
     0 (holding_is_whole (ranges field) hold)
 

@@ -3,17 +3,20 @@ use mathlib.Core.Path.{◌≡◌, refl, sym, ◌∙◌, subst}
 use mathlib.Core.Bool.{Bool, true, false}
 use mathlib.Core.Logic.{inl, inr}
 use mathlib.Core.List.{List}
-use Prim.Native.Nat.{ℕ, ◌≤◌, ◌<◌}
+use Prim.Native.Nat.{ℕ, ◌-◌, ◌≤◌, ◌<◌}
 use native.Mathlib.Omega.{arith}
 use borrow.Author.Tests.{ltb-true, leb-true, lt-ltb, le-leb, eqb-true, eqb-false, eq-eqb, ne_eqb}
 use lib.Dec.{eqb, ltb, leb}
-use lib.ListN.{length}
+use lib.ListN.{length, drop, length-drop}
 use Rattle.memory.specs.Edac.{edac_size}
 use Rattle.read_only.proofs.Runs.{both}
 use Rattle.field.specs.Reading.{is_whole}
 use Rattle.carrying.specs.Ending.{is_limit, done, refused}
 use Rattle.file_commands.specs.ReadFile.{files_shown}
 use Rattle.file_commands.specs.WriteFile.{listed, files_of, files_stored, judge_list_of, storage, store_list_of, StoringLeaves, write_file_of}
+
+pub rest_of_a_list : (start : ℕ) (list : List ℕ) → length (drop start list) ≡ length list - start
+rest_of_a_list = length-drop
 
 -- what it is to be fit
 pub record Fit (limit : ℕ) (list : List ℕ) : Type 0 where
@@ -43,13 +46,6 @@ module _ (limit : ℕ) (list : List ℕ) where
 
   pub so_it_is_fit : Fit limit list → judge_list_of limit list ≡ true
   so_it_is_fit fit = judged_by_its_end fit.limited fit.some fit.short ∙ fit.whole
-
-  pub unfit : (Fit limit list → ⊥) → judge_list_of limit list ≡ false
-  unfit never = apart (judge_list_of limit list) refl
-    where
-      apart : (b : Bool) → judge_list_of limit list ≡ b → judge_list_of limit list ≡ false
-      apart true e = absurd (never (what_is_fit e))
-      apart false e = e
 
 -- ---- storing
 

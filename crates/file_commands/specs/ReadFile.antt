@@ -13,7 +13,11 @@ unfoldable pub files_width : List ℕ → ℕ
 files_width [] = 0
 files_width (file ∷ files) = shown_size file + files_width files
 
--- A list of file addresses. An empty list is refused, and so is one whose reply has no room.
+-- A list of file addresses: of each file one byte.
+abbrev pub address_size : ℕ → ℕ
+address_size file = 1
+
+-- An empty list is refused, and so is one whose reply has no room.
 unfoldable pub read_file_of : ℕ → List ℕ → List ℕ → Ending (Unit {0})
 read_file_of room edac field =
     cond (eqb (length field) 0) refused

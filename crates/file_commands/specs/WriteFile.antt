@@ -1,11 +1,11 @@
 -- WRITE FILE 0x08 (01, "Commands"; 02, T-02 and T-11; ICD 11.12): judging a list, storing a judged one, and the command. Assumes nothing.
-use Rattle.std.specs.Prelude.{ℕ, ◌≡◌, Bool, true, false, cond, ◌&&◌, ◌⊎◌, List, [], ◌∷◌, eqb, ltb, leb, length, get_or, drop}
+use Rattle.std.specs.Prelude.{ℕ, ◌≡◌, Bool, true, false, cond, ◌&&◌, ◌⊎◌, List, [], ◌∷◌, eqb, ltb, leb, length, get_or, drop, Result, Ok, Err}
 use Rattle.memory.specs.Edac.{edac_size, shown_size}
 use Rattle.read_only.specs.Files.{file_stored}
 use Rattle.field.specs.Reading.{Listed, ends, cut, item, is_whole, structures}
 use Rattle.carrying.specs.Ending.{is_limit, Ending, done, refused}
-use Rattle.file_commands.specs.declared.write_file.Storing.{Storing}
-use Rattle.file_commands.specs.declared.write_file.Storing.TheVariants.{Stored, Unfit, BadEdac}
+use Rattle.file_commands.specs.declared.write_file.StoreError.{StoreError}
+use Rattle.file_commands.specs.declared.write_file.StoreError.TheVariants.{Unfit, BadEdac}
 use Rattle.file_commands.specs.ReadFile.{files_shown}
 
 -- The structures are those that READ FILE shows: file 0 with its mode byte and four bytes, any other file with four bytes.
@@ -41,16 +41,16 @@ pub record Storage : Type 0 where
 abbrev pub storage : ℕ → List ℕ → Storage
 storage answer edac = record { answer = answer; edac = edac }
 
--- 01's number for each case of `Storing`: 0 where all is well and nothing is sent, 4 as for a command that is refused and not answered, 21 for a
+-- 01's number for what storing comes to: 0 where all is well and nothing is sent, 4 as for a command that is refused and not answered, 21 for a
 -- wrong length of EDAC memory.
-abbrev pub store_number_of : Storing → ℕ
-store_number_of Stored = 0
-store_number_of Unfit = 4
-store_number_of BadEdac = 21
+abbrev pub store_number_of : Result (Unit {0}) StoreError → ℕ
+store_number_of (Ok _) = 0
+store_number_of (Err Unfit) = 4
+store_number_of (Err BadEdac) = 21
 
 -- What `store_list` gives back, with EDAC memory as it leaves it.
-abbrev pub storage_of : Storing → List ℕ → Storage
-storage_of storing edac = storage (store_number_of storing) edac
+abbrev pub storage_of : Result (Unit {0}) StoreError → List ℕ → Storage
+storage_of stored edac = storage (store_number_of stored) edac
 
 -- EDAC memory that is not 1,536 bytes long and, after that, an unfit list change nothing; else every file of the list is stored, in order.
 unfoldable pub store_list_of : ℕ → List ℕ → List ℕ → Storage

@@ -2,4 +2,5 @@
 #![tactic(auto)]
 
 pub mod read_file;
+mod showing;
 pub mod write_file;

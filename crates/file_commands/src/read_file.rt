@@ -1,15 +1,16 @@
 // READ FILE 0x07.
 ghost use Rattle.std.specs.Prelude.{◌≡◌, ◌≤◌, leb, length, drop};
-ghost use Rattle.memory.specs.Bytes.{begun};
+ghost use Rattle.std.proofs.Common.{arith};
 ghost use Rattle.memory.specs.Edac.{edac_size, shown_size};
 ghost use Rattle.carrying.specs.Ending.{left, leaves};
-ghost use Rattle.file_commands.specs.ReadFile.{files_shown, files_width, read_file_of};
+ghost use Rattle.file_commands.specs.ReadFile.{address_size, files_width, read_file_of};
 
-use carrying::Ended;
-use field::reader::{new, past};
-use memory::edac::{FileAddress, show_file};
+use crate::showing::{Structure, show_files};
+use carrying::{CommandError, Ended};
+use field::reader::Reader;
 
 // How many bytes a file takes in a list of structures, and in a reply.
+#[tactic(auto, using(memory::proofs::Files::size_of_file_0, memory::proofs::Files::size_of_another))]
 pub fn width(file: u8) -> usize
     ensures { result ≡ shown_size file }
 {
@@ -17,59 +18,44 @@ pub fn width(file: u8) -> usize
 }
 
 // Whether the reply to a list has room. Its length is not added up, so that a list may be of any length.
-fn files_fit(room: usize, field: &[u8], start: usize) -> bool
-    ensures { result ≡ leb (files_width (drop start field.now)) room }
+fn files_fit(room: usize, list: Reader) -> bool
+    ensures { result ≡ leb (files_width (drop list.entry.at list.entry.field.now)) room }
 {
     let mut free = room;
-    let mut at = start;
-    while at < field.len() {
-        let size = width(field[at]);
+    let mut reader = list;
+    while reader.at < reader.field.len() {
+        let size = width(reader.field[reader.at]);
         if free < size {
             return false;
         }
         free -= size;
-        at = past(field, at, 1);
+        reader = reader.next(1);
     }
     true
 }
 
-// Shows each file of a list, one after the other. Answers the place after the last.
-fn show_files(edac: &[u8], field: &[u8], start: usize, reply: &mut [u8]) -> usize
-    requires { (length edac.now ≡ edac_size) × (files_width (drop start field.now) ≤ length reply.old) }
-    ensures { (result ≡ length (files_shown edac.now (drop start field.now)))
-        × (reply.new ≡ begun reply.old (files_shown edac.now (drop start field.now))) }
-{
-    let mut place = 0;
-    let mut at = start;
-    while at < field.len() {
-        let file = field[at];
-        let next = past(field, at, 1);
-        place = show_file(edac, FileAddress(file), reply, place);
-        at = next;
+// A list of file addresses.
+struct Addresses;
+
+impl Structure for Addresses {
+    ghost wide = { address_size };
+
+    ghost some = { λ _. Prim.omega arith };
+
+    fn width(_file: u8) -> usize {
+        1
     }
-    place
 }
 
-// The command on a list from a reader's place on.
-fn read_from(room: usize, edac: &[u8], field: &[u8], at: usize, reply: &mut [u8]) -> Ended
-    requires { (room ≤ length reply.old) × (length edac.now ≡ edac_size) }
-    ensures { left result reply.new tt
-        ≡ leaves (read_file_of room edac.now (drop at field.now)) reply.old tt }
-{
-    if field.len() <= at {
-        return Ended::Refused;
-    }
-    if files_fit(room, field, at) {
-        return Ended::Done(show_files(edac, field, at, reply));
-    }
-    Ended::Refused
-}
-
+#[tactic(auto, using(crate::proofs::Lists::all_are_files), unfolding(crate::specs::ReadFile::read_file_of))]
 pub fn read_file(room: usize, edac: &[u8], field: &[u8], reply: &mut [u8]) -> Ended
     requires { (room ≤ length reply.old) × (length edac.now ≡ edac_size) }
     ensures { left result reply.new tt
         ≡ leaves (read_file_of room edac.now field.now) reply.old tt }
 {
-    let r = new(field);
-    read_from(room, edac, r.field, r.at, reply)
+    let list = Reader::new(field);
+    if field.is_empty() || !files_fit(room, list) {
+        return Err(CommandError::Refused);
+    }
+    Ok(show_files::<Addresses>(edac, list, reply))
 }

@@ -7,8 +7,8 @@ use Rattle.edac_commands.specs.Gather.{ranges}
 use Rattle.edac_commands.proofs.Lists.{taken}
 use Rattle.edac_commands.proofs.gather.ranges_taken.Given as goal
 
-abbrev pub invariant-loop-at : goal.invariant-loop-at
-invariant-loop-at l = taken l.free (ranges (drop l.at l.field)) ≡ taken l.room (ranges (drop l.start l.field))
+abbrev pub invariant-loop-reader : goal.invariant-loop-reader
+invariant-loop-reader l = taken l.free (ranges (drop l.reader.at l.reader.field.now)) ≡ taken l.room (ranges (drop l.list.at l.list.field.now))
 
-abbrev pub decreases-loop-at : goal.decreases-loop-at
-decreases-loop-at l = length l.field - l.at
+abbrev pub decreases-loop-reader : goal.decreases-loop-reader
+decreases-loop-reader l = length l.reader.field.now - l.reader.at

@@ -1,15 +1,23 @@
--- `edac_commands::gather::show_range` meets its contract: the head of the range, then its bytes. Assumes nothing.
-use mathlib.Core.Path.{ap}
+-- `edac_commands::gather::show_range` meets its contract: the range itself, then its bytes. Assumes nothing.
+use mathlib.Core.Path.{ap, ap₂, ◌∙◌}
+use Prim.Native.Nat.{ℕ, ◌+◌}
 use native.Mathlib.Omega.{arith}
-use lib.ListN.{length, drop}
-use Rattle.carrying.proofs.Room.{part}
-use Rattle.carrying.proofs.Writing.{shown_range}
+use lib.ListN.{length, length-append}
+use Rattle.memory.specs.Bytes.{stored, stretch}
+use Rattle.memory.proofs.Stretches.{a_store_goes_on}
+use Rattle.field.specs.Fields.{word16_at}
 use Rattle.edac_commands.proofs.gather.show_range.Goals as goal
 
-pub put-requires-2 : goal.put-requires-2
-put-requires-2 c =
-    let few = part c.word16-2.result (drop c.word16.result c.args.edac.now) in
-    omega (arith, ap length c.bytes_of-bytes.ensures)
-
 pub returns : goal.returns
-returns c = shown_range c.args.field.now c.args.edac.now c.args.reply.now _ _ _ c.args.at c.args.place _ _ c.word16.ensures c.word16-2.ensures (omega arith) (omega arith) c.bytes_of-bytes.ensures c.put.ensures c.put-2.ensures
+returns c =
+    let range = c.args.range.now in
+    let edac = c.args.edac.now in
+    let there = c.bytes_of-bytes.ensures ∙ ap₂ (λ (a n : ℕ). stretch a n edac) (c.from.ensures ∙ c.word16.ensures) (c.from-2.ensures ∙ c.word16-2.ensures) in
+    let shown = stretch (word16_at range 0) (word16_at range 2) edac in
+    let both = length-append range shown in
+    let size = ap length there in (
+      omega arith,
+      c.put-2.ensures
+          ∙ ap₂ (λ held l. stored held (c.args.place + length range) l) c.put.ensures there
+          ∙ a_store_goes_on c.args.reply.now c.args.place range shown (omega arith),
+    )

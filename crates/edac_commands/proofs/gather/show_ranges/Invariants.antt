@@ -6,8 +6,11 @@ use Rattle.edac_commands.specs.Gather.{ranges, ranges_width, ranges_shown}
 use Rattle.carrying.proofs.Writing.{Written}
 use Rattle.edac_commands.proofs.gather.show_ranges.Given as goal
 
-abbrev pub invariant-loop-at : goal.invariant-loop-at
-invariant-loop-at l = (length l.reply ≡ length l.initial.reply) × (l.place + ranges_width (ranges (drop l.at l.field)) ≤ length l.initial.reply) × Written l.initial.reply (ranges_shown l.edac (ranges (drop l.start l.field))) (ranges_shown l.edac (ranges (drop l.at l.field))) l.reply l.place
+abbrev pub invariant-loop-reader : goal.invariant-loop-reader
+invariant-loop-reader l =
+    (length l.reply ≡ length l.initial.reply)
+    × (l.place + ranges_width (ranges (drop l.reader.at l.reader.field.now)) ≤ length l.initial.reply)
+    × Written l.initial.reply (ranges_shown l.edac (ranges (drop l.list.at l.list.field.now))) (ranges_shown l.edac (ranges (drop l.reader.at l.reader.field.now))) l.reply l.place
 
-abbrev pub decreases-loop-at : goal.decreases-loop-at
-decreases-loop-at l = length l.field - l.at
+abbrev pub decreases-loop-reader : goal.decreases-loop-reader
+decreases-loop-reader l = length l.reader.field.now - l.reader.at

@@ -7,8 +7,8 @@ use lib.ListN.{length, drop}
 use Rattle.file_commands.specs.ReadFile.{files_width}
 use Rattle.file_commands.proofs.read_file.files_fit.Given as goal
 
-abbrev pub invariant-loop-at : goal.invariant-loop-at
-invariant-loop-at l = leb (files_width (drop l.at l.field)) l.free ≡ leb (files_width (drop l.start l.field)) l.room
+abbrev pub invariant-loop-reader : goal.invariant-loop-reader
+invariant-loop-reader l = leb (files_width (drop l.reader.at l.reader.field.now)) l.free ≡ leb (files_width (drop l.list.at l.list.field.now)) l.room
 
-abbrev pub decreases-loop-at : goal.decreases-loop-at
-decreases-loop-at l = length l.field - l.at
+abbrev pub decreases-loop-reader : goal.decreases-loop-reader
+decreases-loop-reader l = length l.reader.field.now - l.reader.at

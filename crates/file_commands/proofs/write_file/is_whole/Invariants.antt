@@ -6,8 +6,8 @@ use Rattle.field.specs.Reading.{is_whole}
 use Rattle.file_commands.specs.WriteFile.{listed}
 use Rattle.file_commands.proofs.write_file.is_whole.Given as goal
 
-abbrev pub invariant-loop-at : goal.invariant-loop-at
-invariant-loop-at l = is_whole (listed (drop l.at l.field)) ≡ is_whole (listed (drop l.start l.field))
+abbrev pub invariant-loop-reader : goal.invariant-loop-reader
+invariant-loop-reader l = is_whole (listed (drop l.reader.at l.reader.field.now)) ≡ is_whole (listed (drop l.list.at l.list.field.now))
 
-abbrev pub decreases-loop-at : goal.decreases-loop-at
-decreases-loop-at l = length l.field - l.at
+abbrev pub decreases-loop-reader : goal.decreases-loop-reader
+decreases-loop-reader l = length l.reader.field.now - l.reader.at

@@ -7,8 +7,9 @@ use Rattle.memory.specs.Edac.{edac_size}
 use Rattle.file_commands.specs.WriteFile.{listed, files_stored}
 use Rattle.file_commands.proofs.write_file.store_files.Given as goal
 
-abbrev pub invariant-loop-at : goal.invariant-loop-at
-invariant-loop-at l = (length l.edac ≡ edac_size) × (files_stored l.edac (listed (drop l.at l.field)) ≡ files_stored l.initial.edac (listed (drop l.start l.field)))
+abbrev pub invariant-loop-reader : goal.invariant-loop-reader
+invariant-loop-reader l =
+    (length l.edac ≡ edac_size) × (files_stored l.edac (listed (drop l.reader.at l.reader.field.now)) ≡ files_stored l.initial.edac (listed (drop l.list.at l.list.field.now)))
 
-abbrev pub decreases-loop-at : goal.decreases-loop-at
-decreases-loop-at l = length l.field - l.at
+abbrev pub decreases-loop-reader : goal.decreases-loop-reader
+decreases-loop-reader l = length l.reader.field.now - l.reader.at
