@@ -6,10 +6,11 @@ use mathlib.Core.List.{List, [], ◌∷◌, ◌++◌}
 use Prim.Native.Nat.{ℕ, ◌+◌, ◌*◌, ◌≤◌, ◌<◌}
 use native.Mathlib.Numerals.{add-one}
 use native.Mathlib.Omega.{arith}
-use borrow.Author.Tests.{le-leb, lt-leb, leb-true}
+use borrow.Author.Tests.{leb-true}
 use lib.Dec.{leb}
 use lib.ListN.{length, drop, get_or, drop_of_length-le}
 use lib.Seq.{drop-cons}
+use Rattle.std.specs.List.{list_all}
 use Rattle.field.specs.Fields.{bytes32}
 use Rattle.command.specs.Diagnostic.{last_channel, all_channels, channels_shown}
 
@@ -23,16 +24,11 @@ pub channels_turn : (field : List ℕ) (at : ℕ) → at < length field
 unfolding all_channels
 channels_turn field at h = ap all_channels (next_left field at h)
 
-pub another_channel_stands : (field : List ℕ) (at : ℕ) → at < length field → last_channel < get_or field at 0 → all_channels (drop at field) ≡ all_channels field
-    → false ≡ all_channels field
-another_channel_stands field at h other left = sym (channels_turn field at h ∙ simp (lt-leb (get_or field at 0) last_channel other)) ∙ left
-
-pub channels_go_on : (field : List ℕ) (at : ℕ) → at < length field → get_or field at 0 ≤ last_channel → all_channels (drop (at + 1) field) ≡ all_channels (drop at field)
-channels_go_on field at h channel = sym (channels_turn field at h ∙ simp (le-leb (get_or field at 0) last_channel channel))
-
-pub channels_end : (field : List ℕ) (at : ℕ) → length field ≤ at → true ≡ all_channels (drop at field)
+-- what the code asks of a list, as the definition has it
+pub each_is_a_channel : (field : List ℕ) → list_all (λ channel. leb channel last_channel) field ≡ all_channels field
 unfolding all_channels
-channels_end field at h = simp (drop_of_length-le field h)
+each_is_a_channel [] = refl
+each_is_a_channel (channel ∷ field) = ap (λ (b : Bool). leb channel last_channel && b) (each_is_a_channel field)
 
 -- a list of channels alone has one at each place
 pub a_channel_stands : (field : List ℕ) (at : ℕ) → at < length field → all_channels (drop at field) ≡ true

@@ -9,8 +9,20 @@ use lib.Dec.{eqb}
 use Rattle.carrying.specs.declared.Mode.{Mode}
 use Rattle.carrying.specs.declared.Mode.TheVariants.{Bootloader, Application}
 use Rattle.carrying.specs.Ending.{Ending, refused}
-use Rattle.carrying.specs.Held.{Held}
+use Rattle.carrying.specs.Held.{Held, reading, on_standing, on_edac, on_frams}
 use Rattle.carrying.proofs.Room.{either_way}
+use Rattle.fram_commands.specs.ByAddress.{peek_by_address, poke_by_address, crc_by_address}
+use Rattle.file_commands.specs.ReadFile.{read_file_of}
+use Rattle.file_commands.specs.WriteFile.{write_file_of}
+use Rattle.edac_commands.specs.ReadEdac.{read_edac_of}
+use Rattle.edac_commands.specs.WriteEdac.{write_edac_of}
+use Rattle.edac_commands.specs.Gather.{gather_of}
+use Rattle.command.specs.declared.code.Command.{Command}
+use Rattle.command.specs.declared.code.Command.TheVariants.{Ping, Init, Peek, Poke, Diagnostic, Crc, ReadFile, WriteFile, ReadEdac, WriteEdac, Gather}
+use Rattle.command.specs.Codes.{code_of, is_allowed}
+use Rattle.command.specs.Ping.{ping_of}
+use Rattle.command.specs.Init.{init_of}
+use Rattle.command.specs.Diagnostic.{diagnostic_of}
 use Rattle.command.specs.Command.{Row, row, table, in_mode, found_in, command_of}
 
 -- a row with yes in both modes
@@ -55,25 +67,94 @@ module _ (room code : ℕ) (now : Held) (field : List ℕ) where
       )
       (all_refused refused (eqb code 0x07) (eqb code 0x08) (eqb code 0x09) (eqb code 0x0A) (eqb code 0x0B))
 
-  -- and so is a code that no row has
-  pub no_such_code : (code ≡ 0x00 → ⊥) → (code ≡ 0x01 → ⊥) → (code ≡ 0x02 → ⊥) → (code ≡ 0x03 → ⊥) → (code ≡ 0x04 → ⊥) → (code ≡ 0x06 → ⊥)
-      → (code ≡ 0x07 → ⊥) → (code ≡ 0x08 → ⊥) → (code ≡ 0x09 → ⊥) → (code ≡ 0x0A → ⊥) → (code ≡ 0x0B → ⊥)
-      → command_of room code now field ≡ refused
+-- ---- each command, by its code and mode
+
+-- what a command comes to that is carried out in its mode
+abbrev pub comes_of : ℕ → Held → List ℕ → Command → Ending Held
+comes_of room now field Ping = reading now ping_of
+comes_of room now field Init = on_standing now (init_of now.standing field)
+comes_of room now field Peek = reading now (peek_by_address room now.frams.bootloader.fram now.frams.user.fram field)
+comes_of room now field Poke = on_frams now (poke_by_address room now.standing.locked now.frams field)
+comes_of room now field Diagnostic = reading now (diagnostic_of room now.standing.diagnostics field)
+comes_of room now field Crc = reading now (crc_by_address now.frams field)
+comes_of room now field ReadFile = reading now (read_file_of room now.edac field)
+comes_of room now field WriteFile = on_edac now (write_file_of room now.edac field)
+comes_of room now field ReadEdac = reading now (read_edac_of room now.edac field)
+comes_of room now field WriteEdac = on_edac now (write_edac_of room now.edac field)
+comes_of room now field Gather = reading now (gather_of room now.edac field)
+
+module _ (room : ℕ) (now : Held) (field : List ℕ) where
+  -- its row, in a mode
+  row_of : (command : Command) (mode : Mode) → found_in (table room now field) mode (code_of command) ≡ cond (is_allowed command mode) (comes_of room now field command) refused
+  row_of Ping Bootloader = refl
+  row_of Ping Application = refl
+  row_of Init Bootloader = refl
+  row_of Init Application = refl
+  row_of Peek Bootloader = refl
+  row_of Peek Application = refl
+  row_of Poke Bootloader = refl
+  row_of Poke Application = refl
+  row_of Diagnostic Bootloader = refl
+  row_of Diagnostic Application = refl
+  row_of Crc Bootloader = refl
+  row_of Crc Application = refl
+  row_of ReadFile Bootloader = refl
+  row_of ReadFile Application = refl
+  row_of WriteFile Bootloader = refl
+  row_of WriteFile Application = refl
+  row_of ReadEdac Bootloader = refl
+  row_of ReadEdac Application = refl
+  row_of WriteEdac Bootloader = refl
+  row_of WriteEdac Application = refl
+  row_of Gather Bootloader = refl
+  row_of Gather Application = refl
+
+  pub what_is_allowed_comes : (code : ℕ) (named command : Command) → (code ≡ code_of named) × (is_allowed named now.standing.mode ≡ true) → named ≡ command
+      → command_of room code now field ≡ comes_of room now field command
   unfolding command_of
-  no_such_code n0 n1 n2 n3 n4 n6 n7 n8 n9 na nb =
-      simp (
-        ne_eqb code 0x00 n0,
-        ne_eqb code 0x01 n1,
-        ne_eqb code 0x02 n2,
-        ne_eqb code 0x03 n3,
-        ne_eqb code 0x04 n4,
-        ne_eqb code 0x06 n6,
-        ne_eqb code 0x07 n7,
-        ne_eqb code 0x08 n8,
-        ne_eqb code 0x09 n9,
-        ne_eqb code 0x0A na,
-        ne_eqb code 0x0B nb,
-      )
+  what_is_allowed_comes code named command allowed is =
+      ap (found_in (table room now field) now.standing.mode) allowed.0 ∙ row_of named now.standing.mode
+      ∙ ap (λ (b : Bool). cond b (comes_of room now field named) refused) allowed.1 ∙ ap (comes_of room now field) is
+
+-- where each row of the code is refused in the mode, so is the code
+abbrev EachRefused : Mode → ℕ → List Row → Type 0
+EachRefused mode code [] = Prim.Unit {0}
+EachRefused mode code (r ∷ rows) = (code ≡ r.code → in_mode mode r ≡ refused) × EachRefused mode code rows
+
+none_is_found : (rows : List Row) (mode : Mode) (code : ℕ) → EachRefused mode code rows → found_in rows mode code ≡ refused
+none_is_found [] mode code each = refl
+none_is_found (r ∷ rows) mode code each =
+    either_way (λ e. e ≡ refused) (eqb code r.code) (in_mode mode r) (found_in rows mode code) (λ e. each.0 (eqb-true code r.code e))
+    (λ _. none_is_found rows mode code each.1)
+
+-- a code is refused whose command, if it has one, is not carried out in the mode
+pub what_is_not_allowed_is_refused : (room : ℕ) (now : Held) (field : List ℕ) (code : ℕ)
+    → ((command : Command) → code ≡ code_of command → is_allowed command now.standing.mode ≡ false) → command_of room code now field ≡ refused
+unfolding command_of
+what_is_not_allowed_is_refused room now field code none =
+    none_is_found (table room now field) now.standing.mode code (
+      refuses Ping,
+      (
+        refuses Init,
+        (
+          refuses Peek,
+          (
+            refuses Poke,
+            (
+              refuses Diagnostic,
+              (
+                refuses Crc,
+                (refuses ReadFile, (refuses WriteFile, (refuses ReadEdac, (refuses WriteEdac, (refuses Gather, tt))))),
+              ),
+            ),
+          ),
+        ),
+      ),
+    )
+  where
+    refuses : (command : Command) → code ≡ code_of command → found_in (table room now field) now.standing.mode (code_of command) ≡ refused
+    refuses command e =
+        row_of room now field command now.standing.mode ∙ ap (λ (b : Bool). cond b (comes_of room now field command) refused) (none command e)
 
 -- what holds of a refusal and of what each row comes to, where the code is the row's, holds of every command
 abbrev pub EachRowAt : (Ending Held → Type 0) → ℕ → List Row → Type 0

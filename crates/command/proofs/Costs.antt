@@ -7,8 +7,7 @@ use borrow.Author.Tests.{eqb-true}
 use lib.Dec.{eqb}
 use lib.ListN.{length}
 use Rattle.blocks.specs.Fram.{block_start}
-use Rattle.carrying.specs.declared.Ended.{Ended}
-use Rattle.carrying.specs.Ending.{Ending, done, refused, unfitted, ended_of}
+use Rattle.carrying.specs.Ending.{Ended, Ending, done, refused, unfitted, ended_of}
 use Rattle.carrying.specs.Held.{Which, of_bootloader, of_user, fram_of, Held, inside, reading}
 use Rattle.carrying.proofs.Room.{either_way}
 use Rattle.fram_commands.specs.Windows.{which_of}

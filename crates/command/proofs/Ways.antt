@@ -42,12 +42,6 @@ pub four_to_order : (value : ℕ) (mode : Mode) (field : List ℕ) → orders va
 four_to_order value Bootloader field h = eqb-true (length field) 4 (both_first (eqb (length field) 4) (eqb (word32_at field 0) value) h)
 four_to_order value Application field h = let z : false ≡ true = h in absurd (false≢true z)
 
-pub orders_with_four : (value : ℕ) (field : List ℕ) → length field ≡ 4 → eqb (word32_at field 0) value ≡ orders value Bootloader field
-orders_with_four value field four = simp (eq-eqb (length field) 4 four)
-
-pub orders_not_with : (value : ℕ) (field : List ℕ) → (length field ≡ 4 → ⊥) → false ≡ orders value Bootloader field
-orders_not_with value field other = simp (ne_eqb (length field) 4 other)
-
 -- ---- DIAGNOSTIC
 
 pub no_channels : (room : ℕ) (diagnostics field : List ℕ) → length field ≡ 0 → diagnostic_of room diagnostics field ≡ refused

@@ -3,3 +3,4 @@ pub mod Init
 pub mod Diagnostic
 pub mod Command
 pub mod Cost
+pub mod Codes

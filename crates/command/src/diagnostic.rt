@@ -6,7 +6,7 @@ ghost use Rattle.field.specs.Fields.{bytes32};
 ghost use Rattle.carrying.specs.Ending.{left, leaves};
 ghost use Rattle.command.specs.Diagnostic.{all_channels, channels_shown, diagnostic_of};
 
-use carrying::Ended;
+use carrying::{CommandError, Ended};
 use memory::bytes::put;
 
 // The last channel that there is.
@@ -16,14 +16,7 @@ const LAST_CHANNEL: u8 = 0x1e;
 fn are_channels(field: &[u8]) -> bool
     ensures { result ≡ all_channels field.now }
 {
-    let mut i = 0;
-    while i < field.len() {
-        if LAST_CHANNEL < field[i] {
-            return false;
-        }
-        i += 1;
-    }
-    true
+    field.iter().all(|channel| *channel <= LAST_CHANNEL)
 }
 
 // Writes a channel and its value.
@@ -31,14 +24,8 @@ fn show_channel(channel: u8, value: u32, reply: &mut [u8], at: usize)
     requires { at + 5 ≤ length reply.old }
     ensures { reply.new ≡ stored reply.old at (channel ∷ bytes32 value) }
 {
-    let shown = [
-        channel,
-        (value % 256) as u8,
-        (value / 256 % 256) as u8,
-        (value / 65536 % 256) as u8,
-        (value / 16777216 % 256) as u8,
-    ];
-    put(&shown, reply, at);
+    reply[at] = channel;
+    put(&value.to_le_bytes(), reply, at + 1);
 }
 
 // Shows each channel of a list, one after the other.
@@ -46,11 +33,8 @@ fn show_channels(diagnostics: &[u32], field: &[u8], reply: &mut [u8])
     requires { (length diagnostics.now ≡ channels) × (all_channels field.now ≡ true) × (5 * length field.now ≤ length reply.old) }
     ensures { reply.new ≡ begun reply.old (channels_shown diagnostics.now field.now) }
 {
-    let mut i = 0;
-    while i < field.len() {
-        let channel = field[i];
-        show_channel(channel, diagnostics[channel as usize], reply, 5 * i);
-        i += 1;
+    for (i, channel) in field.iter().enumerate() {
+        show_channel(*channel, diagnostics[usize::from(*channel)], reply, 5 * i);
     }
 }
 
@@ -60,15 +44,9 @@ pub fn diagnostic(room: usize, diagnostics: &[u32], field: &[u8], reply: &mut [u
         ≡ leaves (diagnostic_of room diagnostics.now field.now) reply.old tt }
 {
     let count = field.len();
-    if count == 0 {
-        return Ended::Refused;
+    if count == 0 || room / 5 < count || !are_channels(field) {
+        return Err(CommandError::Refused);
     }
-    if room / 5 < count {
-        return Ended::Refused;
-    }
-    if are_channels(field) {
-        show_channels(diagnostics, field, reply);
-        return Ended::Done(5 * count);
-    }
-    Ended::Refused
+    show_channels(diagnostics, field, reply);
+    Ok(5 * count)
 }

@@ -4,7 +4,7 @@ ghost use Rattle.carrying.specs.Ending.{left, leaves};
 ghost use Rattle.carrying.specs.Held.{standing};
 ghost use Rattle.command.specs.Init.{orders, init_of};
 
-use carrying::{Carried, Ended, Mode};
+use carrying::{Carried, CommandError, Mode};
 use field::fields::word32;
 use memory::bytes::put;
 use memory::status::write_status;
@@ -19,13 +19,7 @@ const LOCK: u32 = 0xdead_beef;
 fn is_order(value: u32, mode: Mode, field: &[u8]) -> bool
     ensures { result ≡ orders value mode field.now }
 {
-    let Mode::Bootloader = mode else {
-        return false;
-    };
-    if field.len() != 4 {
-        return false;
-    }
-    word32(field, 0) == value
+    mode == Mode::Bootloader && field.len() == 4 && word32(field, 0) == value
 }
 
 // `locked` is whether bootloader FRAM is, which the diagnostics show.
@@ -40,33 +34,32 @@ pub fn init(
     ensures { left result.ended reply.new (standing result.mode result.locked diagnostics.new)
         ≡ leaves (init_of (standing mode locked diagnostics.old) field.now) reply.old (standing mode locked diagnostics.old) }
 {
-    if field.len() == 0 {
-        return Carried {
-            ended: Ended::Done(0),
+    if field.is_empty() {
+        Carried {
+            ended: Ok(0),
             mode: Mode::Bootloader,
             locked,
-        };
-    }
-    if is_order(APPLICATION_START, mode, field) {
+        }
+    } else if is_order(APPLICATION_START, mode, field) {
         put(field, reply, 0);
-        return Carried {
-            ended: Ended::Done(4),
+        Carried {
+            ended: Ok(4),
             mode: Mode::Application,
             locked,
-        };
-    }
-    if is_order(LOCK, mode, field) {
+        }
+    } else if is_order(LOCK, mode, field) {
         write_status(diagnostics, true);
         put(field, reply, 0);
-        return Carried {
-            ended: Ended::Done(4),
+        Carried {
+            ended: Ok(4),
             mode,
             locked: true,
-        };
-    }
-    Carried {
-        ended: Ended::Refused,
-        mode,
-        locked,
+        }
+    } else {
+        Carried {
+            ended: Err(CommandError::Refused),
+            mode,
+            locked,
+        }
     }
 }

@@ -10,5 +10,5 @@ pub fn ping(reply: &mut [u8]) -> Ended
     ensures { left result reply.new tt ≡ leaves ping_of reply.old tt }
 {
     memory::bytes::put(b"WHEEL UNIT NSP 01", reply, 0);
-    Ended::Done(17)
+    Ok(17)
 }
