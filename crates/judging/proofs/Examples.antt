@@ -4,6 +4,7 @@ use mathlib.Core.Bool.{false}
 use mathlib.Core.List.{List}
 use Prim.Native.Nat.{ℕ}
 use lib.ListN.{set, replicate}
+use Rattle.std.proofs.Common.{Ok, Err}
 use Rattle.crc.specs.Sum.{bit_step, bit_steps, byte_step, sum_from, sum_of}
 use Rattle.line.specs.declared.receiver.Place.{Place}
 use Rattle.line.specs.declared.receiver.Place.TheVariants.{Fresh, Run, Escape, Fault}
@@ -20,7 +21,6 @@ use Rattle.judging.specs.declared.Unit.{Unit}
 use Rattle.judging.specs.declared.Lengths.{Lengths}
 use Rattle.judging.specs.declared.Verdict.{Verdict}
 use Rattle.judging.specs.declared.Verdict.TheVariants.{Quiet}
-use Rattle.judging.specs.declared.fitting.Fit.TheVariants.{Fits, Unfit}
 use Rattle.judging.specs.Fitting.{lengths_fit, set_up_fit, step_fit}
 use Rattle.judging.specs.Judging.{Judging, judging, dropped, largest_message, run_of, verdict_of, received_of}
 
@@ -79,31 +79,31 @@ pub the_largest : (largest_message 1028 ≡ message_size) × (largest_message 26
 the_largest = (refl, refl)
 
 -- Set-up takes 260 to 1,028, and a number that ends like one of them in 16 bits is another number. 29 comes after 25.
-pub set_ups : (set_up_fit 1 259 (lent 2068) ≡ Unfit BadLimit) × (set_up_fit 1 260 (lent 2068) ≡ Fits) × (set_up_fit 1 1028 (lent 2068) ≡ Fits)
-    × (set_up_fit 1 1029 (lent 2068) ≡ Unfit BadLimit) × (set_up_fit 1 0 (lent 2068) ≡ Unfit BadLimit) × (set_up_fit 1 66564 (lent 2068) ≡ Unfit BadLimit)
-    × (set_up_fit 1 259 (lent 2067) ≡ Unfit BadBuffers)
+pub set_ups : (set_up_fit 1 259 (lent 2068) ≡ Err BadLimit) × (set_up_fit 1 260 (lent 2068) ≡ Ok tt) × (set_up_fit 1 1028 (lent 2068) ≡ Ok tt)
+    × (set_up_fit 1 1029 (lent 2068) ≡ Err BadLimit) × (set_up_fit 1 0 (lent 2068) ≡ Err BadLimit) × (set_up_fit 1 66564 (lent 2068) ≡ Err BadLimit)
+    × (set_up_fit 1 259 (lent 2067) ≡ Err BadBuffers)
 unfolding set_up_fit lengths_fit
 set_ups = (refl, refl, refl, refl, refl, refl, refl)
 
 -- So does every byte, with the limit of its record. 26 is above 1,034 under every limit, and comes before 29; 25 comes before both.
-pub calls : (step_fit (unit 259 opened) 0 (lent 2068) ≡ Unfit BadLimit) × (step_fit (unit 260 opened) 0 (lent 2068) ≡ Fits) × (step_fit (unit 1028 opened) 0 (lent 2068) ≡ Fits)
-    × (step_fit (unit 1029 opened) 0 (lent 2068) ≡ Unfit BadLimit) × (step_fit (unit 260 (at Run 1034)) 0 (lent 2068) ≡ Fits)
-    × (step_fit (unit 260 (at Run 1035)) 0 (lent 2068) ≡ Unfit BadCount) × (step_fit (unit 259 (at Run 1035)) 0 (lent 2068) ≡ Unfit BadCount)
-    × (step_fit (unit 259 (at Run 1034)) 0 (lent 2068) ≡ Unfit BadLimit) × (step_fit (unit 259 opened) 0 (lent 2067) ≡ Unfit BadBuffers)
-    × (step_fit (unit 259 (at Run 1035)) 0 (lent 2067) ≡ Unfit BadBuffers)
+pub calls : (step_fit (unit 259 opened) 0 (lent 2068) ≡ Err BadLimit) × (step_fit (unit 260 opened) 0 (lent 2068) ≡ Ok tt) × (step_fit (unit 1028 opened) 0 (lent 2068) ≡ Ok tt)
+    × (step_fit (unit 1029 opened) 0 (lent 2068) ≡ Err BadLimit) × (step_fit (unit 260 (at Run 1034)) 0 (lent 2068) ≡ Ok tt)
+    × (step_fit (unit 260 (at Run 1035)) 0 (lent 2068) ≡ Err BadCount) × (step_fit (unit 259 (at Run 1035)) 0 (lent 2068) ≡ Err BadCount)
+    × (step_fit (unit 259 (at Run 1034)) 0 (lent 2068) ≡ Err BadLimit) × (step_fit (unit 259 opened) 0 (lent 2067) ≡ Err BadBuffers)
+    × (step_fit (unit 259 (at Run 1035)) 0 (lent 2067) ≡ Err BadBuffers)
 unfolding step_fit lengths_fit
 calls = (refl, refl, refl, refl, refl, refl, refl, refl, refl, refl)
 
 -- 02, T-07: 22 is given for either FRAM, before 23 for the sums of either; after set-up for another length than the one that was set up, too.
-pub set_ups_of_two : (set_up_fit 1 260 (lent_with 255 1 256 1 2068) ≡ Unfit BadFram) × (set_up_fit 1 260 (lent_with 256 1 262400 1025 2068) ≡ Unfit BadFram)
-    × (set_up_fit 1 260 (lent_with 256 2 0 0 2068) ≡ Unfit BadFram) × (set_up_fit 1 260 (lent_with 256 2 256 1 2068) ≡ Unfit BadSums)
-    × (set_up_fit 1 260 (lent_with 256 1 256 0 2067) ≡ Unfit BadSums) × (set_up_fit 1 260 (lent_with 262144 1024 256 1 2068) ≡ Fits)
+pub set_ups_of_two : (set_up_fit 1 260 (lent_with 255 1 256 1 2068) ≡ Err BadFram) × (set_up_fit 1 260 (lent_with 256 1 262400 1025 2068) ≡ Err BadFram)
+    × (set_up_fit 1 260 (lent_with 256 2 0 0 2068) ≡ Err BadFram) × (set_up_fit 1 260 (lent_with 256 2 256 1 2068) ≡ Err BadSums)
+    × (set_up_fit 1 260 (lent_with 256 1 256 0 2067) ≡ Err BadSums) × (set_up_fit 1 260 (lent_with 262144 1024 256 1 2068) ≡ Ok tt)
 unfolding set_up_fit lengths_fit
 set_ups_of_two = (refl, refl, refl, refl, refl, refl)
 
-pub calls_of_two : (step_fit (unit 260 opened) 0 (lent_with 256 1 256 1 2068) ≡ Unfit BadFram) × (step_fit (unit 260 opened) 0 (lent_with 512 2 512 2 2068) ≡ Unfit BadFram)
-    × (step_fit (unit 260 opened) 0 (lent_with 512 1 512 2 2068) ≡ Unfit BadFram) × (step_fit (unit 260 opened) 0 (lent_with 512 1 256 1 2068) ≡ Unfit BadSums)
-    × (step_fit (unit 260 opened) 0 (lent_with 512 2 256 2 2068) ≡ Unfit BadSums) × (step_fit (unit 260 opened) 0 (lent_with 512 2 256 1 2068) ≡ Fits)
+pub calls_of_two : (step_fit (unit 260 opened) 0 (lent_with 256 1 256 1 2068) ≡ Err BadFram) × (step_fit (unit 260 opened) 0 (lent_with 512 2 512 2 2068) ≡ Err BadFram)
+    × (step_fit (unit 260 opened) 0 (lent_with 512 1 512 2 2068) ≡ Err BadFram) × (step_fit (unit 260 opened) 0 (lent_with 512 1 256 1 2068) ≡ Err BadSums)
+    × (step_fit (unit 260 opened) 0 (lent_with 512 2 256 2 2068) ≡ Err BadSums) × (step_fit (unit 260 opened) 0 (lent_with 512 2 256 1 2068) ≡ Ok tt)
 unfolding step_fit lengths_fit
 calls_of_two = (refl, refl, refl, refl, refl, refl)
 
@@ -139,12 +139,12 @@ judged_by_its_crc = refl
 
 -- 02, T-01: 20 is a strap above 7; 25 a short buffer of either port; 26 a count above 1,034 of either port, whichever the byte is for, in a run that is
 -- thrown away too; then 27, then 29.
-pub both_ports : (set_up_fit 7 260 (lent 2068) ≡ Fits) × (set_up_fit 8 260 (lent 2068) ≡ Unfit BadStrap) × (step_fit (unit_on 7 260 (Hearing opened) (Hearing opened)) 1 (lent 2068) ≡ Fits)
-    × (step_fit (unit_on 8 260 (Hearing opened) (Hearing opened)) 1 (lent 2068) ≡ Unfit BadStrap)
-    × (step_fit (unit 260 opened) 0 (short_of 1032 2068 1033 2068) ≡ Unfit BadBuffers) × (step_fit (unit 260 opened) 0 (short_of 1033 2067 1033 2068) ≡ Unfit BadBuffers)
-    × (step_fit (unit 260 opened) 0 (short_of 1033 2068 1032 2068) ≡ Unfit BadBuffers) × (step_fit (unit 260 opened) 0 (short_of 1033 2068 1033 2067) ≡ Unfit BadBuffers)
-    × (step_fit (unit_on 1 260 (Hearing opened) (Hearing (at Run 1035))) 0 (lent 2068) ≡ Unfit BadCount) × (step_fit (unit_on 1 260 (Throwing 1035) (Hearing opened)) 1 (lent 2068) ≡ Unfit BadCount)
-    × (step_fit (unit_on 1 260 (Throwing 1034) (Hearing opened)) 1 (lent 2068) ≡ Fits) × (step_fit (unit_on 1 259 (Throwing 1035) (Hearing opened)) 2 (lent 2068) ≡ Unfit BadCount)
-    × (step_fit (unit 259 opened) 2 (lent 2068) ≡ Unfit BadPort) × (step_fit (unit 259 opened) 255 (lent 2067) ≡ Unfit BadBuffers) × (step_fit (unit 259 opened) 1 (lent 2068) ≡ Unfit BadLimit)
+pub both_ports : (set_up_fit 7 260 (lent 2068) ≡ Ok tt) × (set_up_fit 8 260 (lent 2068) ≡ Err BadStrap) × (step_fit (unit_on 7 260 (Hearing opened) (Hearing opened)) 1 (lent 2068) ≡ Ok tt)
+    × (step_fit (unit_on 8 260 (Hearing opened) (Hearing opened)) 1 (lent 2068) ≡ Err BadStrap)
+    × (step_fit (unit 260 opened) 0 (short_of 1032 2068 1033 2068) ≡ Err BadBuffers) × (step_fit (unit 260 opened) 0 (short_of 1033 2067 1033 2068) ≡ Err BadBuffers)
+    × (step_fit (unit 260 opened) 0 (short_of 1033 2068 1032 2068) ≡ Err BadBuffers) × (step_fit (unit 260 opened) 0 (short_of 1033 2068 1033 2067) ≡ Err BadBuffers)
+    × (step_fit (unit_on 1 260 (Hearing opened) (Hearing (at Run 1035))) 0 (lent 2068) ≡ Err BadCount) × (step_fit (unit_on 1 260 (Throwing 1035) (Hearing opened)) 1 (lent 2068) ≡ Err BadCount)
+    × (step_fit (unit_on 1 260 (Throwing 1034) (Hearing opened)) 1 (lent 2068) ≡ Ok tt) × (step_fit (unit_on 1 259 (Throwing 1035) (Hearing opened)) 2 (lent 2068) ≡ Err BadCount)
+    × (step_fit (unit 259 opened) 2 (lent 2068) ≡ Err BadPort) × (step_fit (unit 259 opened) 255 (lent 2067) ≡ Err BadBuffers) × (step_fit (unit 259 opened) 1 (lent 2068) ≡ Err BadLimit)
 unfolding set_up_fit step_fit lengths_fit
 both_ports = (refl, refl, refl, refl, refl, refl, refl, refl, refl, refl, refl, refl, refl, refl, refl)

@@ -7,16 +7,15 @@ use native.Mathlib.Omega.{arith}
 use borrow.Author.Tests.{le-leb, eqb-true, ltb-false, leb-true}
 use lib.Dec.{eqb, leb, ltb}
 use lib.ListN.{get_or}
+use Rattle.std.proofs.Common.{Option, Some, None, Ok, Err}
 use Rattle.line.specs.declared.receiver.Heard.{Heard}
 use Rattle.line.specs.declared.receiver.Heard.TheVariants as heard
 use Rattle.line.specs.Packing.{shortest_message, message_size, reply_size}
 use Rattle.ports.specs.declared.Side.{Side}
 use Rattle.ports.specs.declared.Side.TheVariants.{Zero, One}
-use Rattle.ports.specs.declared.Ports.{Ports}
-use Rattle.ports.specs.declared.Answered.{Answered}
-use Rattle.ports.specs.declared.Answered.TheVariants.{On, Nowhere}
-use Rattle.ports.specs.Sides.{side_of, Both, both, of_side}
-use Rattle.ports.specs.Ports.{count_of, answered_on, port_of, hear_of}
+use Rattle.ports.specs.declared.Both.{Both}
+use Rattle.ports.specs.Sides.{side_of, both, of_side}
+use Rattle.ports.specs.Ports.{Ports, count_of, answered_on, port_of, hear_of}
 use Rattle.memory.specs.Counts.{channels}
 use Rattle.memory.specs.Edac.{edac_size}
 use Rattle.blocks.specs.Fram.{block_start}
@@ -28,9 +27,7 @@ use Rattle.judging.specs.declared.Unit.{Unit}
 use Rattle.judging.specs.declared.Lengths.{Lengths}
 use Rattle.judging.specs.declared.Verdict.{Verdict}
 use Rattle.judging.specs.declared.Verdict.TheVariants.{Quiet, Dropped, Command}
-use Rattle.judging.specs.declared.fitting.Fit.{Fit}
-use Rattle.judging.specs.declared.fitting.Fit.TheVariants.{Fits, Unfit}
-use Rattle.judging.specs.Fitting.{last_strap, fram_fits, sums_fit, frams_as_set_up, largest_count, too_short, limit_fit, count_fit, port_fit, record_fit, lengths_fit, set_up_fit, step_fit}
+use Rattle.judging.specs.Fitting.{Fit, last_strap, fram_fits, sums_fit, frams_as_set_up, largest_count, too_short, limit_fit, count_fit, port_fit, record_fit, lengths_fit, set_up_fit, step_fit}
 use Rattle.judging.specs.Judging.{largest_message, sound_of, command_on, run_of, verdict_of, with_ports, received_of, among_both, unless, judge_of}
 
 -- the tests that a call passed, as equations
@@ -42,12 +39,12 @@ pub record Passed (strap : ℕ) (fits : Bool) (l : Lengths) (next : Fit) : Type 
   pub diagnostics_tested : eqb l.diagnostics channels ≡ true
   pub port_0_tested : too_short l.message0 l.reply0 ≡ false
   pub port_1_tested : too_short l.message1 l.reply1 ≡ false
-  pub next_tested : next ≡ Fits
+  pub next_tested : next ≡ Ok tt
 
-unfit : (answer : Answer) → {X : Type 0} → Unfit answer ≡ Fits → X
+unfit : (answer : Answer) → {X : Type 0} → ◌≡◌ {A = Fit} (Err answer) (Ok tt) → X
 unfit answer e = let z : ◌≡◌ {A = ℕ} 0 1 = cc in absurd (omega arith)
 
-pub all_passed : (strap : ℕ) (fits : Bool) (l : Lengths) (next : Fit) → lengths_fit strap fits l next ≡ Fits → Passed strap fits l next
+pub all_passed : (strap : ℕ) (fits : Bool) (l : Lengths) (next : Fit) → lengths_fit strap fits l next ≡ Ok tt → Passed strap fits l next
 unfolding lengths_fit
 all_passed strap fits l next =
     tested (ltb last_strap strap) (eqb l.edac edac_size) fits (sums_fit l) (eqb l.diagnostics channels)
@@ -55,9 +52,9 @@ all_passed strap fits l next =
   where
     tested : (a e f s d m r : Bool) → ltb last_strap strap ≡ a → eqb l.edac edac_size ≡ e → fits ≡ f → sums_fit l ≡ s
         → eqb l.diagnostics channels ≡ d → too_short l.message0 l.reply0 ≡ m → too_short l.message1 l.reply1 ≡ r
-        → cond a (Unfit BadStrap)
-        (cond e (cond f (cond s (cond d (cond (m || r) (Unfit BadBuffers) next) (Unfit BadDiagnostics)) (Unfit BadSums)) (Unfit BadFram)) (Unfit BadEdac))
-        ≡ Fits
+        → cond a (Err BadStrap)
+        (cond e (cond f (cond s (cond d (cond (m || r) (Err BadBuffers) next) (Err BadDiagnostics)) (Err BadSums)) (Err BadFram)) (Err BadEdac))
+        ≡ Ok tt
         → Passed strap fits l next
     tested true e f s d m r pa pe pf ps pd pm pr h = unfit BadStrap h
     tested false false f s d m r pa pe pf ps pd pm pr h = unfit BadEdac h
@@ -79,8 +76,8 @@ all_passed strap fits l next =
         }
 
 -- 20 to 25 do not look at what comes after them
-pub refused_all_the_same : (strap : ℕ) (fits : Bool) (l : Lengths) (next : Fit) (answer : Answer) → lengths_fit strap fits l Fits ≡ Unfit answer
-    → Unfit answer ≡ lengths_fit strap fits l next
+pub refused_all_the_same : (strap : ℕ) (fits : Bool) (l : Lengths) (next : Fit) (answer : Answer) → lengths_fit strap fits l (Ok tt) ≡ Err answer
+    → Err answer ≡ lengths_fit strap fits l next
 unfolding lengths_fit
 refused_all_the_same strap fits l next answer =
     tested (ltb last_strap strap) (eqb l.edac edac_size) fits (sums_fit l) (eqb l.diagnostics channels)
@@ -88,9 +85,9 @@ refused_all_the_same strap fits l next answer =
   where
     judged : Bool → Bool → Bool → Bool → Bool → Bool → Fit → Fit
     judged a e f s d b x =
-        cond a (Unfit BadStrap) (cond e (cond f (cond s (cond d (cond b (Unfit BadBuffers) x) (Unfit BadDiagnostics)) (Unfit BadSums)) (Unfit BadFram)) (Unfit BadEdac))
+        cond a (Err BadStrap) (cond e (cond f (cond s (cond d (cond b (Err BadBuffers) x) (Err BadDiagnostics)) (Err BadSums)) (Err BadFram)) (Err BadEdac))
 
-    tested : (a e f s d b : Bool) → judged a e f s d b Fits ≡ Unfit answer → Unfit answer ≡ judged a e f s d b next
+    tested : (a e f s d b : Bool) → judged a e f s d b (Ok tt) ≡ Err answer → Err answer ≡ judged a e f s d b next
     tested true e f s d b h = sym h
     tested false false f s d b h = sym h
     tested false true false s d b h = sym h
@@ -99,10 +96,10 @@ refused_all_the_same strap fits l next answer =
     tested false true true true true true h = sym h
     tested false true true true true false h = unfit answer (sym h)
 
-pub and_then : (strap : ℕ) (fits : Bool) (l : Lengths) (next : Fit) → lengths_fit strap fits l Fits ≡ Fits → next ≡ lengths_fit strap fits l next
+pub and_then : (strap : ℕ) (fits : Bool) (l : Lengths) (next : Fit) → lengths_fit strap fits l (Ok tt) ≡ Ok tt → next ≡ lengths_fit strap fits l next
 unfolding lengths_fit
 and_then strap fits l next h =
-    let p = all_passed strap fits l Fits h in
+    let p = all_passed strap fits l (Ok tt) h in
     simp (p.strap_allowed, p.edac_tested, p.fram_tested, p.sums_tested, p.diagnostics_tested, p.port_0_tested, p.port_1_tested)
 
 -- What is lent has the lengths that a call needs: what is left to say of it when no refusal is due.
@@ -156,28 +153,28 @@ fitted strap fits l next p =
     reply One = on_1.1
 
 -- and the limit is one
-limited : (limit : ℕ) → limit_fit limit ≡ Fits → is_limit limit ≡ true
+limited : (limit : ℕ) → limit_fit limit ≡ Ok tt → is_limit limit ≡ true
 limited limit e = apart (is_limit limit) refl e
   where
-    apart : (b : Bool) → is_limit limit ≡ b → cond b Fits (Unfit BadLimit) ≡ Fits → is_limit limit ≡ true
+    apart : (b : Bool) → is_limit limit ≡ b → ◌≡◌ {A = Fit} (cond b (Ok tt) (Err BadLimit)) (Ok tt) → is_limit limit ≡ true
     apart true is f = is
     apart false is f = unfit BadLimit f
 
-counted : (count : ℕ) (next : Fit) → count_fit count next ≡ Fits → (count ≤ largest_count) × (next ≡ Fits)
+counted : (count : ℕ) (next : Fit) → count_fit count next ≡ Ok tt → (count ≤ largest_count) × (next ≡ Ok tt)
 counted count next e = apart (leb count largest_count) refl e
   where
-    apart : (b : Bool) → leb count largest_count ≡ b → cond b next (Unfit BadCount) ≡ Fits → (count ≤ largest_count) × (next ≡ Fits)
+    apart : (b : Bool) → leb count largest_count ≡ b → cond b next (Err BadCount) ≡ Ok tt → (count ≤ largest_count) × (next ≡ Ok tt)
     apart true is f = (leb-true count largest_count is, f)
     apart false is f = unfit BadCount f
 
-named : (number : ℕ) (next : Fit) → port_fit number next ≡ Fits → (number ≤ 1) × (next ≡ Fits)
+named : (number : ℕ) (next : Fit) → port_fit number next ≡ Ok tt → (number ≤ 1) × (next ≡ Ok tt)
 named number next e = apart (leb number 1) refl e
   where
-    apart : (b : Bool) → leb number 1 ≡ b → cond b next (Unfit BadPort) ≡ Fits → (number ≤ 1) × (next ≡ Fits)
+    apart : (b : Bool) → leb number 1 ≡ b → cond b next (Err BadPort) ≡ Ok tt → (number ≤ 1) × (next ≡ Ok tt)
     apart true is f = (leb-true number 1 is, f)
     apart false is f = unfit BadPort f
 
-module _ (strap limit : ℕ) (l : Lengths) (e : set_up_fit strap limit l ≡ Fits) where
+module _ (strap limit : ℕ) (l : Lengths) (e : set_up_fit strap limit l ≡ Ok tt) where
   pub passed_set_up : Passed strap (fram_fits l.bootloader && fram_fits l.fram) l (limit_fit limit)
   unfolding set_up_fit
   passed_set_up = all_passed strap (fram_fits l.bootloader && fram_fits l.fram) l (limit_fit limit) e
@@ -195,7 +192,7 @@ pub record Sound (u : Unit) (number : ℕ) : Type 0 where
   pub port : number ≤ 1
   pub limit : is_limit u.limit ≡ true
 
-module _ (u : Unit) (number : ℕ) (l : Lengths) (e : step_fit u number l ≡ Fits) where
+module _ (u : Unit) (number : ℕ) (l : Lengths) (e : step_fit u number l ≡ Ok tt) where
   pub passed_step : Passed u.strap (frams_as_set_up u l) l (record_fit u number)
   unfolding step_fit
   passed_step = all_passed u.strap (frams_as_set_up u l) l (record_fit u number) e
@@ -211,13 +208,13 @@ module _ (u : Unit) (number : ℕ) (l : Lengths) (e : step_fit u number l ≡ Fi
       record { count_0 = zero.0; count_1 = one.0; port = port.0; limit = limited u.limit port.1 }
 
 -- other ports with counts that are not refused change nothing of that
-pub served_with_other_ports : (u : Unit) (number : ℕ) (l : Lengths) (ports : Ports) → step_fit u number l ≡ Fits → ((side : Side) → count_of (port_of side ports) ≤ largest_count)
-    → step_fit (with_ports u ports) number l ≡ Fits
+pub served_with_other_ports : (u : Unit) (number : ℕ) (l : Lengths) (ports : Ports) → step_fit u number l ≡ Ok tt → ((side : Side) → count_of (port_of side ports) ≤ largest_count)
+    → step_fit (with_ports u ports) number l ≡ Ok tt
 unfolding step_fit
 served_with_other_ports u number l ports e low =
     let sound = a_served_record_is_sound u number l e in
     let passed = passed_step u number l e in
-    let fits : record_fit (with_ports u ports) number ≡ Fits
+    let fits : record_fit (with_ports u ports) number ≡ Ok tt
     = simp (le-leb (count_of ports.port0) largest_count (low Zero), le-leb (count_of ports.port1) largest_count (low One), le-leb number 1 sound.port, sound.limit) in
     ap (lengths_fit u.strap (frams_as_set_up u l) l) (fits ∙ sym passed.next_tested) ∙ e
 
@@ -238,9 +235,9 @@ legal_run largest strap side count message =
     (λ _. ordered (answered_on strap side (get_or message 0 0)) (ltb-false count shortest_message enough) (ltb-false largest count fits))
     (λ _. omega arith)))
   where
-    ordered : (a : Answered) → shortest_message ≤ count → count ≤ largest → Legal largest (command_on a count)
-    ordered (On telemetry) enough fits = (enough, fits)
-    ordered Nowhere enough fits = omega arith
+    ordered : (a : Option Side) → shortest_message ≤ count → count ≤ largest → Legal largest (command_on a count)
+    ordered (Some telemetry) enough fits = (enough, fits)
+    ordered None enough fits = omega arith
 
 legal_verdict : (largest strap : ℕ) (side : Side) (h : Heard) (message : List ℕ) → Legal largest (verdict_of largest strap side h message)
 unfolding verdict_of
@@ -268,8 +265,8 @@ what_a_verdict_guarantees u number byte l messages = apart (step_fit u number l)
     apart : (f : Fit) → step_fit u number l ≡ f
         → let side = side_of number in
         let j = unless f u messages (among_both side messages (received_of u side byte (of_side side messages))) in Guaranteed j.unit.limit l j.verdict
-    apart (Unfit answer) e = omega arith
-    apart Fits e =
+    apart (Err answer) e = omega arith
+    apart (Ok _) e =
         let side = side_of number in
         let largest = largest_message u.limit in
         let got = hear_of largest (port_of side u.ports) byte (of_side side messages) in

@@ -6,33 +6,23 @@ use Prim.Native.Nat.{ℕ, ◌≤◌, ◌<◌}
 use native.Mathlib.Omega.{arith}
 use borrow.Author.Tests.{lt-ltb, le-ltb}
 use lib.ListN.{length, get_or}
-use Rattle.line.specs.declared.receiver.Heard.{Heard}
+use Rattle.std.proofs.Common.{Ok, Err}
 use Rattle.line.specs.Packing.{shortest_message, message_size}
 use Rattle.ports.specs.declared.Side.{Side}
 use Rattle.ports.specs.declared.Side.TheVariants.{Zero, One}
 use Rattle.ports.specs.declared.GotOn.{GotOn}
-use Rattle.ports.specs.declared.Answered.{Answered}
-use Rattle.ports.specs.declared.Answered.TheVariants.{On, Nowhere}
-use Rattle.ports.specs.Sides.{side_of, Both, both, of_side, put}
-use Rattle.ports.specs.Ports.{answered_on, port_of, with_port, hear_of, AfterByteOn, hearing_on, hear_on_of, first_count}
+use Rattle.ports.specs.declared.Both.{Both}
+use Rattle.ports.specs.Sides.{side_of, both, of_side, put}
+use Rattle.ports.specs.Ports.{port_of, with_port, hear_of, AfterByteOn, hearing_on, hear_on_of}
 use Rattle.ports.proofs.Sides.{put_there}
 use Rattle.answer.specs.declared.Answer.{Answer}
-use Rattle.answer.specs.declared.Answer.TheVariants.{Runt, Oversize, BadCrc, Elsewhere}
+use Rattle.answer.specs.declared.Answer.TheVariants.{Runt, Oversize, BadCrc}
 use Rattle.judging.specs.declared.Unit.{Unit}
 use Rattle.judging.specs.declared.Lengths.{Lengths}
 use Rattle.judging.specs.declared.Verdict.{Verdict}
-use Rattle.judging.specs.declared.Verdict.TheVariants.{Quiet, Command}
-use Rattle.judging.specs.declared.fitting.Fit.TheVariants.{Fits, Unfit}
+use Rattle.judging.specs.declared.Verdict.TheVariants.{Quiet}
 use Rattle.judging.specs.Fitting.{step_fit}
-use Rattle.judging.specs.Judging.{judging, dropped, largest_message, sound_of, command_on, heard_for, run_of, verdict_of, with_ports, received_of, among_both, judge_of}
-
-pub a_command_heard : (strap : ℕ) (side : Side) (destination count : ℕ) (on : Answered) (telemetry : Side) → on ≡ answered_on strap side destination → on ≡ On telemetry
-    → Command count telemetry ≡ heard_for strap side destination count
-a_command_heard strap side destination count on telemetry e is = ap (λ a. command_on a count) (sym is ∙ e)
-
-pub not_heard_here : (strap : ℕ) (side : Side) (destination count : ℕ) (on : Answered) → on ≡ answered_on strap side destination → on ≡ Nowhere
-    → Quiet Elsewhere ≡ heard_for strap side destination count
-not_heard_here strap side destination count on e is = ap (λ a. command_on a count) (sym is ∙ e)
+use Rattle.judging.specs.Judging.{judging, dropped, largest_message, sound_of, heard_for, run_of, verdict_of, with_ports, received_of, among_both, judge_of}
 
 module _ (largest strap : ℕ) (side : Side) (count : ℕ) (message : List ℕ) where
   pub a_runt : count < shortest_message → dropped side Runt 1 ≡ run_of largest strap side count message
@@ -53,19 +43,14 @@ module _ (largest strap : ℕ) (side : Side) (count : ℕ) (message : List ℕ) 
       unfolding run_of
       a_sound_message sound = sym (simp (le-ltb count shortest_message enough, le-ltb largest count fits, sound))
 
--- the verdict on what was heard
-pub verdict_on : (largest strap : ℕ) (side : Side) (message : List ℕ) (heard h : Heard) (v : Verdict) → heard ≡ h → v ≡ verdict_of largest strap side h message
-    → v ≡ verdict_of largest strap side heard message
-verdict_on largest strap side message heard h v is says = says ∙ ap (λ x. verdict_of largest strap side x message) (sym is)
-
 -- a call refused, and one that is not
-pub refused_quietly : (u : Unit) (number byte : ℕ) (l : Lengths) (messages : Both (List ℕ)) (answer : Answer) → step_fit u number l ≡ Unfit answer
+pub refused_quietly : (u : Unit) (number byte : ℕ) (l : Lengths) (messages : Both (List ℕ)) (answer : Answer) → step_fit u number l ≡ Err answer
     → judging u (Quiet answer) messages ≡ judge_of u number byte l messages
 unfolding judge_of
 refused_quietly u number byte l messages answer e = simp e
 
 -- a byte heard on a port, with the verdict on what was heard
-pub received_and_judged : (u : Unit) (number byte : ℕ) (l : Lengths) (messages : Both (List ℕ)) (side : Side) (r : GotOn) (after : Both (List ℕ)) (message : List ℕ) (v : Verdict) → step_fit u number l ≡ Fits → side ≡ side_of number
+pub received_and_judged : (u : Unit) (number byte : ℕ) (l : Lengths) (messages : Both (List ℕ)) (side : Side) (r : GotOn) (after : Both (List ℕ)) (message : List ℕ) (v : Verdict) → step_fit u number l ≡ Ok tt → side ≡ side_of number
     → hearing_on r.ports r.heard after ≡ hear_on_of side (largest_message u.limit) u.ports byte messages
     → message ≡ of_side side after
     → v ≡ verdict_of (largest_message u.limit) u.strap side r.heard message
@@ -80,14 +65,8 @@ received_and_judged u number byte l messages side r after message v e is h m say
     (put_there side messages got.message)
     ∙ sym (simp e (ap (λ s. among_both s messages (received_of u s byte (of_side s messages))) (sym is)))
 
--- ---- one of two, and the channels of a port
-
 -- the message buffer of a port is as long as those that were lent
 pub long_enough_of : (side : Side) (lent0 lent1 : ℕ) (left0 left1 message : List ℕ) → ((s : Side) → message_size ≤ of_side s (both lent0 lent1)) → length left0 ≡ lent0 → length left1 ≡ lent1
     → message ≡ of_side side (both left0 left1) → message_size ≤ length message
 long_enough_of Zero lent0 lent1 left0 left1 message fits zero one is = omega (arith, fits Zero, zero, ap length is)
 long_enough_of One lent0 lent1 left0 left1 message fits zero one is = omega (arith, fits One, one, ap length is)
-
-pub low_channels : (side : Side) → first_count side ≤ 0x0E
-low_channels Zero = omega arith
-low_channels One = omega arith

@@ -1,16 +1,14 @@
 -- What one byte brings about: 01, "The line" (the tests at the close), "The message" and "One byte in, one answer out"; 02, T-01 and
 -- T-06. Assumes nothing.
-use Rattle.std.specs.Prelude.{ℕ, ◌+◌, ◌-◌, Bool, cond, List, eqb, ltb, take, get_or}
+use Rattle.std.specs.Prelude.{ℕ, ◌+◌, ◌-◌, Bool, cond, List, eqb, ltb, take, get_or, Option, Some, None, Ok, Err}
 use Rattle.crc.specs.Sum.{sum_of}
 use Rattle.line.specs.declared.receiver.Heard.{Heard}
 use Rattle.line.specs.declared.receiver.Heard.TheVariants as heard
 use Rattle.line.specs.Packing.{shortest_message}
 use Rattle.ports.specs.declared.Side.{Side}
-use Rattle.ports.specs.declared.Ports.{Ports}
-use Rattle.ports.specs.declared.Answered.{Answered}
-use Rattle.ports.specs.declared.Answered.TheVariants.{On, Nowhere}
-use Rattle.ports.specs.Sides.{side_of, Both, of_side, put}
-use Rattle.ports.specs.Ports.{answered_on, port_of, with_port, hear_of, first_count}
+use Rattle.ports.specs.declared.Both.{Both}
+use Rattle.ports.specs.Sides.{side_of, of_side, put}
+use Rattle.ports.specs.Ports.{Ports, answered_on, port_of, with_port, hear_of, first_count}
 use Rattle.field.specs.Fields.{word16_at}
 use Rattle.answer.specs.declared.Answer.{Answer}
 use Rattle.answer.specs.declared.Answer.TheVariants.{Taken, Framing, Runt, Oversize, BadCrc, Elsewhere}
@@ -19,9 +17,9 @@ use Rattle.judging.specs.declared.Lengths.{Lengths}
 use Rattle.judging.specs.declared.Verdict.{Verdict}
 use Rattle.judging.specs.declared.Verdict.TheVariants.{Quiet, Dropped, Command}
 use Rattle.judging.specs.declared.Judged.{Judged}
-use Rattle.judging.specs.declared.fitting.Fit.{Fit}
-use Rattle.judging.specs.declared.fitting.Fit.TheVariants.{Fits, Unfit}
-use Rattle.judging.specs.Fitting.{step_fit}
+use Rattle.judging.specs.declared.Wrong.{Wrong}
+use Rattle.judging.specs.declared.Wrong.TheVariants as wrong
+use Rattle.judging.specs.Fitting.{Fit, step_fit}
 
 -- The unit afterwards, the verdict, and the message buffer of the port, or of both (`M`).
 pub record Judging (M : Type 0) : Type 0 where
@@ -40,6 +38,13 @@ judging_of r message = judging r.unit r.verdict message
 abbrev pub dropped : Side → Answer → ℕ → Verdict
 dropped side answer which = Dropped answer (first_count side + which)
 
+-- The same by what was wrong with the run.
+abbrev pub dropped_for : Side → Wrong → Verdict
+dropped_for side wrong.Framing = dropped side Framing 0
+dropped_for side wrong.Runt = dropped side Runt 1
+dropped_for side wrong.Oversize = dropped side Oversize 2
+dropped_for side wrong.BadCrc = dropped side BadCrc 3
+
 -- The CRC is over destination to last data byte, and its low byte comes first.
 abbrev pub sound_of : ℕ → List ℕ → Bool
 sound_of count message = eqb (sum_of (take (count - 2) message)) (word16_at message (count - 2))
@@ -49,9 +54,9 @@ abbrev pub largest_message : ℕ → ℕ
 largest_message limit = limit + shortest_message
 
 -- A sound message by its address and by the port it came in on: a command, which is answered on some port, or not heard there.
-abbrev pub command_on : Answered → ℕ → Verdict
-command_on (On telemetry) count = Command count telemetry
-command_on Nowhere count = Quiet Elsewhere
+abbrev pub command_on : Option Side → ℕ → Verdict
+command_on (Some telemetry) count = Command count telemetry
+command_on None count = Quiet Elsewhere
 
 abbrev pub heard_for : ℕ → Side → ℕ → ℕ → Verdict
 heard_for strap side destination count = command_on (answered_on strap side destination) count
@@ -95,8 +100,8 @@ among_both side messages j = judging j.unit j.verdict (put side messages j.messa
 
 -- A call that is refused loses the byte, and changes nothing.
 abbrev pub unless : Fit → Unit → Both (List ℕ) → Judging (Both (List ℕ)) → Judging (Both (List ℕ))
-unless (Unfit answer) u messages served = judging u (Quiet answer) messages
-unless Fits u messages served = served
+unless (Err answer) u messages served = judging u (Quiet answer) messages
+unless (Ok _) u messages served = served
 
 -- One byte on the port of this number, judged; `l` has the lengths of all that is lent.
 unfoldable pub judge_of : Unit → ℕ → ℕ → Lengths → Both (List ℕ) → Judging (Both (List ℕ))

@@ -12,12 +12,8 @@ use memory::counts::CHANNELS;
 use memory::edac::EDAC_SIZE;
 use ports::count_of;
 
-// Whether a call can be served.
-#[derive(Clone, Copy)]
-pub enum Fit {
-    Fits,
-    Unfit(Answer),
-}
+// Whether a call can be served, or the answer that refuses it.
+pub type Fit = Result<(), Answer>;
 
 // The largest strap, and the larger number of a port.
 const LAST_STRAP: u8 = 7;
@@ -36,69 +32,52 @@ const LARGEST_COUNT: usize = 1034;
 fn fram_fits(size: usize) -> bool
     ensures { result ≡ fram_fits size }
 {
-    if size < LEAST_FRAM {
-        return false;
-    }
-    if MOST_FRAM < size {
-        return false;
-    }
-    size % BLOCK_SIZE == 0
+    (LEAST_FRAM..=MOST_FRAM).contains(&size) && size % BLOCK_SIZE == 0
 }
 
 // Whether there is one sum for each block.
 fn sums_fit(sums: usize, fram: usize) -> bool
     ensures { result ≡ eqb (block_start sums) fram }
 {
-    if fram % BLOCK_SIZE != 0 {
-        return false;
-    }
-    fram / BLOCK_SIZE == sums
+    fram % BLOCK_SIZE == 0 && fram / BLOCK_SIZE == sums
 }
 
 // Whether there is one sum for each block of both FRAMs.
 fn all_sums_fit(lengths: Lengths) -> bool
     ensures { result ≡ sums_fit lengths }
 {
-    if sums_fit(lengths.bootloader_sums, lengths.bootloader) {
-        return sums_fit(lengths.sums, lengths.fram);
-    }
-    false
+    sums_fit(lengths.bootloader_sums, lengths.bootloader) && sums_fit(lengths.sums, lengths.fram)
 }
 
 // Whether a port has a buffer that is too short.
 fn too_short(message: usize, reply: usize) -> bool
     ensures { result ≡ too_short message reply }
 {
-    if message < MESSAGE_SIZE {
-        return true;
-    }
-    reply < REPLY_SIZE
+    message < MESSAGE_SIZE || reply < REPLY_SIZE
 }
 
 // 20 to 25, and then what comes after them.
+#[tactic(auto, unfolding(crate::specs::Fitting::lengths_fit))]
 fn lengths_fit(strap: u8, fits: bool, lengths: Lengths, next: Fit) -> Fit
     ensures { result ≡ lengths_fit strap fits lengths next }
 {
     if LAST_STRAP < strap {
-        return Fit::Unfit(Answer::BadStrap);
+        return Err(Answer::BadStrap);
     }
     if lengths.edac != EDAC_SIZE {
-        return Fit::Unfit(Answer::BadEdac);
+        return Err(Answer::BadEdac);
     }
     if !fits {
-        return Fit::Unfit(Answer::BadFram);
+        return Err(Answer::BadFram);
     }
     if !all_sums_fit(lengths) {
-        return Fit::Unfit(Answer::BadSums);
+        return Err(Answer::BadSums);
     }
     if lengths.diagnostics != CHANNELS {
-        return Fit::Unfit(Answer::BadDiagnostics);
+        return Err(Answer::BadDiagnostics);
     }
-    if too_short(lengths.message0, lengths.reply0) {
-        return Fit::Unfit(Answer::BadBuffers);
-    }
-    if too_short(lengths.message1, lengths.reply1) {
-        return Fit::Unfit(Answer::BadBuffers);
+    if too_short(lengths.message0, lengths.reply0) || too_short(lengths.message1, lengths.reply1) {
+        return Err(Answer::BadBuffers);
     }
     next
 }
@@ -108,9 +87,9 @@ fn limit_fits(limit: usize) -> Fit
     ensures { result ≡ limit_fit limit }
 {
     if is_limit(limit) {
-        Fit::Fits
+        Ok(())
     } else {
-        Fit::Unfit(Answer::BadLimit)
+        Err(Answer::BadLimit)
     }
 }
 
@@ -118,12 +97,10 @@ fn limit_fits(limit: usize) -> Fit
 fn frams_fit(bootloader: usize, fram: usize) -> bool
     ensures { result ≡ (fram_fits bootloader && fram_fits fram) }
 {
-    if fram_fits(bootloader) {
-        return fram_fits(fram);
-    }
-    false
+    fram_fits(bootloader) && fram_fits(fram)
 }
 
+#[tactic(auto, unfolding(crate::specs::Fitting::set_up_fit))]
 pub fn set_up_fit(strap: u8, limit: usize, lengths: Lengths) -> Fit
     ensures { result ≡ set_up_fit strap limit lengths }
 {
@@ -135,20 +112,15 @@ pub fn set_up_fit(strap: u8, limit: usize, lengths: Lengths) -> Fit
 fn fram_as_set_up(size: usize, set_up: usize) -> bool
     ensures { result ≡ fram_as_set_up size set_up }
 {
-    if fram_fits(size) {
-        return size == set_up;
-    }
-    false
+    fram_fits(size) && size == set_up
 }
 
 // Whether both FRAMs have the lengths that were set up.
 fn frams_as_set_up(unit: Unit, lengths: Lengths) -> bool
     ensures { result ≡ frams_as_set_up unit lengths }
 {
-    if fram_as_set_up(lengths.bootloader, unit.bootloader_len) {
-        return fram_as_set_up(lengths.fram, unit.fram_len);
-    }
-    false
+    fram_as_set_up(lengths.bootloader, unit.bootloader_len)
+        && fram_as_set_up(lengths.fram, unit.fram_len)
 }
 
 // 27, then 29.
@@ -156,7 +128,7 @@ fn port_fits(port: u8, limit: u16) -> Fit
     ensures { result ≡ port_fit port (limit_fit limit) }
 {
     if LAST_PORT < port {
-        return Fit::Unfit(Answer::BadPort);
+        return Err(Answer::BadPort);
     }
     limit_fits(limit as usize)
 }
@@ -165,26 +137,18 @@ fn port_fits(port: u8, limit: u16) -> Fit
 fn record_fits(unit: Unit, port: u8) -> Fit
     ensures { result ≡ record_fit unit port }
 {
-    let ports = unit.ports;
-    let port0 = ports.port0;
-    let port1 = ports.port1;
-    if LARGEST_COUNT < count_of(port0) {
-        return Fit::Unfit(Answer::BadCount);
-    }
-    if LARGEST_COUNT < count_of(port1) {
-        return Fit::Unfit(Answer::BadCount);
+    if LARGEST_COUNT < count_of(unit.ports.port0) || LARGEST_COUNT < count_of(unit.ports.port1) {
+        return Err(Answer::BadCount);
     }
     port_fits(port, unit.limit)
 }
 
+#[tactic(auto, using(crate::proofs::Serving::and_then), unfolding(crate::specs::Fitting::step_fit))]
 pub fn step_fit(unit: Unit, port: u8, lengths: Lengths) -> Fit
     ensures { result ≡ step_fit unit port lengths }
 {
     // The record is tested when what is lent has passed: as a value of `next`, made before, it would cost each byte more.
     let as_set_up = frams_as_set_up(unit, lengths);
-    let fit = lengths_fit(unit.strap, as_set_up, lengths, Fit::Fits);
-    match fit {
-        Fit::Unfit(answer) => Fit::Unfit(answer),
-        Fit::Fits => record_fits(unit, port),
-    }
+    lengths_fit(unit.strap, as_set_up, lengths, Ok(()))?;
+    record_fits(unit, port)
 }

@@ -7,13 +7,13 @@ pub mod fitting;
 ghost use Rattle.std.specs.Prelude.{◌≡◌, ◌≤◌, length};
 ghost use Rattle.line.specs.Packing.{shortest_message, message_size};
 ghost use Rattle.ports.specs.Sides.{both};
-ghost use Rattle.judging.specs.Judging.{dropped, sound_of, heard_for, run_of, verdict_of, judging_of, judge_of};
+ghost use Rattle.judging.specs.Judging.{dropped_for, sound_of, heard_for, run_of, verdict_of, judging_of, judge_of};
 
 use answer::Answer;
 use carrying::Mode;
 use line::packing::SHORTEST_MESSAGE;
 use line::receiver::Heard;
-use ports::{Answered, Ports, Side};
+use ports::{Ports, Side};
 
 // What the unit is between two calls: its strap, the most data bytes of a message on its bus, its mode, whether bootloader FRAM is
 // locked, the lengths of bootloader FRAM and of user FRAM that were set up, and its two ports.
@@ -61,14 +61,14 @@ pub struct Judged {
     pub verdict: Verdict,
 }
 
-// Which of the four error counts of its port a dropped run goes to.
-const FRAMINGS: usize = 0;
-
-const RUNTS: usize = 1;
-
-const OVERSIZES: usize = 2;
-
-const BAD_CRCS: usize = 3;
+// What was wrong with a run that is dropped.
+#[derive(Clone, Copy)]
+enum Wrong {
+    Framing,
+    Runt,
+    Oversize,
+    BadCrc,
+}
 
 // A message ends with its CRC, of two bytes.
 const CRC_SIZE: usize = 2;
@@ -79,54 +79,58 @@ fn is_sound(count: usize, message: &[u8]) -> bool
     ensures { result ≡ sound_of count message.now }
 {
     let end = count - CRC_SIZE;
-    crc::sum(&message[0..end]) == field::fields::word16(message, end)
+    crc::sum(&message[..end]) == field::fields::word16(message, end)
 }
 
 // A run dropped, with the diagnostic of its port that counts it.
-fn dropped_as(side: Side, answer: Answer, which: usize) -> Verdict
-    requires { which ≤ 3 }
-    ensures { result ≡ dropped side answer which }
+fn dropped_as(side: Side, wrong: Wrong) -> Verdict
+    ensures { result ≡ dropped_for side wrong }
 {
-    Verdict::Dropped(answer, ports::first_count(side) + which)
+    let (answer, which) = match wrong {
+        Wrong::Framing => (Answer::Framing, 0),
+        Wrong::Runt => (Answer::Runt, 1),
+        Wrong::Oversize => (Answer::Oversize, 2),
+        Wrong::BadCrc => (Answer::BadCrc, 3),
+    };
+    Verdict::Dropped(answer, side.counts().first + which)
 }
 
 // A sound message by its address: a command, or not for this port.
 fn heard_for(strap: u8, side: Side, destination: u8, count: usize) -> Verdict
     ensures { result ≡ heard_for strap side destination count }
 {
-    let on = ports::answered_on(strap, side, destination);
-    match on {
-        Answered::On(telemetry) => Verdict::Command(count, telemetry),
-        Answered::Nowhere => Verdict::Quiet(Answer::Elsewhere),
+    match ports::answered_on(strap, side, destination) {
+        Some(telemetry) => Verdict::Command(count, telemetry),
+        None => Verdict::Quiet(Answer::Elsewhere),
     }
 }
 
 // A run that is neither empty nor framing, where the largest message has so many bytes.
+#[tactic(auto, unfolding(crate::specs::Judging::run_of))]
 fn run(largest: u16, strap: u8, side: Side, count: usize, message: &[u8]) -> Verdict
     requires { (largest ≤ message_size) × (message_size ≤ length message.now) }
     ensures { result ≡ run_of largest strap side count message.now }
 {
     if count < SHORTEST_MESSAGE {
-        return dropped_as(side, Answer::Runt, RUNTS);
+        dropped_as(side, Wrong::Runt)
+    } else if (largest as usize) < count {
+        dropped_as(side, Wrong::Oversize)
+    } else if !is_sound(count, message) {
+        dropped_as(side, Wrong::BadCrc)
+    } else {
+        heard_for(strap, side, message[0], count)
     }
-    if (largest as usize) < count {
-        return dropped_as(side, Answer::Oversize, OVERSIZES);
-    }
-    if !is_sound(count, message) {
-        return dropped_as(side, Answer::BadCrc, BAD_CRCS);
-    }
-    heard_for(strap, side, message[0], count)
 }
 
 // The verdict on what was heard on a port, with the message buffer of that port.
+#[tactic(auto, unfolding(crate::specs::Judging::verdict_of))]
 fn verdict_of(largest: u16, strap: u8, side: Side, heard: Heard, message: &[u8]) -> Verdict
     requires { (largest ≤ message_size) × (message_size ≤ length message.now) }
     ensures { result ≡ verdict_of largest strap side heard message.now }
 {
     match heard {
-        Heard::Taken => Verdict::Quiet(Answer::Taken),
-        Heard::Empty => Verdict::Quiet(Answer::Taken),
-        Heard::Framing => dropped_as(side, Answer::Framing, FRAMINGS),
+        Heard::Taken | Heard::Empty => Verdict::Quiet(Answer::Taken),
+        Heard::Framing => dropped_as(side, Wrong::Framing),
         Heard::Message(count) => run(largest, strap, side, count, message),
     }
 }
@@ -144,31 +148,21 @@ pub fn judge(
     ensures { judging_of result (both message0.new message1.new)
         ≡ judge_of unit port byte lengths (both message0.old message1.old) }
 {
-    let fit = fitting::step_fit(unit, port, lengths);
-    match fit {
-        fitting::Fit::Unfit(answer) => Judged {
+    match fitting::step_fit(unit, port, lengths) {
+        Err(answer) => Judged {
             unit,
             verdict: Verdict::Quiet(answer),
         },
-        fitting::Fit::Fits => {
-            let side = ports::side_of(port);
-            let mode = unit.mode;
-            let before = unit.ports;
+        Ok(()) => {
+            let side = Side::from(port);
             let largest = unit.limit + SHORTEST_MESSAGE as u16;
-            let got = ports::hear_on(side, largest, before, byte, message0, message1);
-            let heard = got.heard;
-            let ports = got.ports;
+            let got = ports::hear_on(side, largest, unit.ports, byte, message0, message1);
             let message = ports::heard_by(side, message0, message1);
-            let verdict = verdict_of(largest, unit.strap, side, heard, message);
+            let verdict = verdict_of(largest, unit.strap, side, got.heard, message);
             Judged {
                 unit: Unit {
-                    strap: unit.strap,
-                    limit: unit.limit,
-                    mode,
-                    locked: unit.locked,
-                    bootloader_len: unit.bootloader_len,
-                    fram_len: unit.fram_len,
-                    ports,
+                    ports: got.ports,
+                    ..unit
                 },
                 verdict,
             }
