@@ -1,5 +1,5 @@
 -- From what a handler leaves to the answer. Assumes nothing.
-use mathlib.Core.Path.{◌≡◌, refl, ap, ap₂, ◌∙◌}
+use mathlib.Core.Path.{◌≡◌, refl, sym, ap, ap₂, ◌∙◌, subst}
 use mathlib.Core.Bool.{Bool}
 use mathlib.Core.List.{List, ◌++◌, append_assoc}
 use Prim.Native.Nat.{ℕ, ◌+◌, ◌-◌, ◌≤◌}
@@ -7,16 +7,15 @@ use native.Mathlib.Omega.{arith}
 use lib.ListN.{length, take, drop, length-append, length-drop}
 use lib.Seq.{take_at, drop_at, length-take-le}
 use Rattle.memory.specs.Bytes.{stretch, begun}
-use Rattle.carrying.specs.declared.Ended.{Ended}
-use Rattle.carrying.specs.declared.Ended.TheVariants as ended'
-use Rattle.carrying.specs.Ending.{longest_data, Ending, done, refused, unfitted, Left, left, leaves}
+use Rattle.std.proofs.Common.{Ok, Err, IfOk}
+use Rattle.carrying.specs.declared.CommandError.TheVariants as failed
+use Rattle.carrying.specs.Ending.{longest_data, Ended, Ending, done, refused, unfitted, Left, left, leaves}
 use Rattle.carrying.specs.Held.{Held}
 use Rattle.command.specs.Cost.{command_cost}
 use Rattle.ports.specs.declared.Side.{Side}
-use Rattle.ports.specs.declared.Ports.{Ports}
 use Rattle.ports.specs.declared.Fate.{Fate}
 use Rattle.ports.specs.declared.Fate.TheVariants.{Nothing, Lost, Leaves}
-use Rattle.ports.specs.Ports.{Settlement, settlement, settle_of}
+use Rattle.ports.specs.Ports.{Ports, Settlement, settlement, settle_of}
 use Rattle.judging.specs.declared.Unit.{Unit}
 use Rattle.judging.specs.Judging.{with_ports}
 use Rattle.replying.specs.Replies.{code_of, said_of, ending_of}
@@ -79,15 +78,15 @@ module _ (u : Unit) (telemetry : Side) (sending : Bool) (w : World) (destination
   leaves_the_answer : (o : Ending Held) → answering (leaves o part (held_of u w)) ≡ answered u telemetry sending destination source control field o w
   unfolding answering composed answered
   leaves_the_answer (done bytes changed) =
-      let fate = fate_of (ended'.Done (length bytes)) control sending in
-      ap (λ s. composed (command_cost (code_of control) (ended'.Done (length bytes)) field) (leaves_on fate telemetry) s (settle_of fate telemetry u.ports changed.standing.diagnostics) changed)
+      let fate = fate_of (Ok (length bytes)) control sending in
+      ap (λ s. composed (command_cost (code_of control) (Ok (length bytes)) field) (leaves_on fate telemetry) s (settle_of fate telemetry u.ports changed.standing.diagnostics) changed)
       (ap (λ d. said_on_of fate telemetry destination source control field (done d (tt {0})) w.buffers.replies) (the_data_stands made part bytes h) ∙ the_same_is_said fate bytes changed)
   leaves_the_answer refused =
-      let fate = fate_of ended'.Refused control sending in
-      ap (λ s. composed (command_cost (code_of control) ended'.Refused field) (leaves_on fate telemetry) s (settle_of fate telemetry u.ports w.diagnostics) (held_of u w)) (a_refusal_said fate)
+      let fate = fate_of (Err failed.Refused) control sending in
+      ap (λ s. composed (command_cost (code_of control) (Err failed.Refused) field) (leaves_on fate telemetry) s (settle_of fate telemetry u.ports w.diagnostics) (held_of u w)) (a_refusal_said fate)
   leaves_the_answer unfitted =
-      let fate = fate_of ended'.Unfitted control sending in
-      ap (λ s. composed (command_cost (code_of control) ended'.Unfitted field) (leaves_on fate telemetry) s (settle_of fate telemetry u.ports w.diagnostics) (held_of u w)) (nothing_fitted_said fate)
+      let fate = fate_of (Err failed.Unfitted) control sending in
+      ap (λ s. composed (command_cost (code_of control) (Err failed.Unfitted) field) (leaves_on fate telemetry) s (settle_of fate telemetry u.ports w.diagnostics) (held_of u w)) (nothing_fitted_said fate)
 
   pub the_command_is_answered : (o : Ending Held) (s : SaidOn) (cost : ℕ) (port : Side) (fate : Fate) (ports : Ports) (diagnostics : List ℕ) (ended : Ended) (back : List ℕ) (changed : Held)
       → left ended back changed ≡ leaves o part (held_of u w)
@@ -114,15 +113,10 @@ length_of_begun part bytes = simp (length-append, length-drop)
 
 -- a reply's data has room
 pub the_data_has_room : (o : Ending Held) (ended : Ended) (part back : List ℕ) (changed before : Held) → left ended back changed ≡ leaves o part before
-    → length part ≡ longest_data → length back ≡ longest_data → (n : ℕ) → ended ≡ ended'.Done n → n ≤ longest_data
-the_data_has_room (done bytes x) ended part back changed before e size kept n k =
+    → length part ≡ longest_data → length back ≡ longest_data → IfOk ended (λ n. n ≤ longest_data)
+the_data_has_room (done bytes x) ended part back changed before e size kept =
     let written : back ≡ begun part bytes = ap (λ l. l.reply) e in
-    let came : ended ≡ ended'.Done (length bytes) = ap (λ l. l.ended) e in
-    let same : n ≡ length bytes = cc in
-    omega (arith, ap length written, length_of_begun part bytes)
-the_data_has_room refused ended part back changed before e size kept n k =
-    let came : ended ≡ ended'.Refused = ap (λ l. l.ended) e in
-    let z : ◌≡◌ {A = ℕ} 0 1 = cc in absurd (omega arith)
-the_data_has_room unfitted ended part back changed before e size kept n k =
-    let came : ended ≡ ended'.Unfitted = ap (λ l. l.ended) e in
-    let z : ◌≡◌ {A = ℕ} 0 1 = cc in absurd (omega arith)
+    let room : length bytes ≤ longest_data = omega (arith, ap length written, length_of_begun part bytes) in
+    subst (λ r. IfOk r (λ n. n ≤ longest_data)) (sym (ap (λ l. l.ended) e)) room
+the_data_has_room refused ended part back changed before e size kept = subst (λ r. IfOk r (λ n. n ≤ longest_data)) (sym (ap (λ l. l.ended) e)) tt
+the_data_has_room unfitted ended part back changed before e size kept = subst (λ r. IfOk r (λ n. n ≤ longest_data)) (sym (ap (λ l. l.ended) e)) tt

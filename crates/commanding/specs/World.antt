@@ -6,7 +6,8 @@ use Rattle.judging.specs.declared.Unit.{Unit}
 use Rattle.answer.specs.declared.Answer.{Answer}
 use Rattle.ports.specs.declared.Side.{Side}
 use Rattle.ports.specs.declared.Side.TheVariants.{Zero}
-use Rattle.ports.specs.Sides.{Both, both, of_side, put}
+use Rattle.ports.specs.declared.Both.{Both}
+use Rattle.ports.specs.Sides.{both, of_side, put}
 use Rattle.commanding.specs.declared.Stepped.{Stepped}
 use Rattle.judging.specs.declared.Lengths.{Lengths}
 
@@ -45,10 +46,10 @@ lengths_of w = record {
   fram = length w.frams.user.fram;
   sums = length w.frams.user.sums;
   diagnostics = length w.diagnostics;
-  message0 = length w.buffers.messages.at0;
-  reply0 = length w.buffers.replies.at0;
-  message1 = length w.buffers.messages.at1;
-  reply1 = length w.buffers.replies.at1;
+  message0 = length w.buffers.messages.port0;
+  reply0 = length w.buffers.replies.port0;
+  message1 = length w.buffers.messages.port1;
+  reply1 = length w.buffers.replies.port1;
 }
 
 -- What a call leaves: the unit, its answer, beside it what a command cost and the port on which its reply leaves, and all that was lent.
@@ -65,6 +66,10 @@ outcome u answer w = record { unit = u; answer = answer; cost = 0; port = Zero; 
 
 abbrev pub costing : ℕ → Side → Outcome → Outcome
 costing cost port o = record { unit = o.unit; answer = o.answer; cost = cost; port = port; world = o.world }
+
+-- What is given back of an answer that cost nothing and of which nothing leaves.
+abbrev pub stepped_as : Unit → Answer → Stepped
+stepped_as u answer = record { unit = u; answer = answer; cost = 0; port = Zero }
 
 -- What a call gives back, with all that was lent as it leaves it.
 abbrev pub outcome_of : Stepped → World → Outcome

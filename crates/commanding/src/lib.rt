@@ -5,12 +5,13 @@ ghost use Rattle.std.specs.Prelude.{◌≡◌, true, List, ℕ, ◌≤◌, lengt
 ghost use Rattle.line.specs.Packing.{shortest_message, message_size, reply_size};
 ghost use Rattle.memory.specs.Counts.{channels};
 ghost use Rattle.memory.specs.Edac.{edac_size};
-ghost use Rattle.blocks.specs.Fram.{block_start, kept};
+ghost use Rattle.blocks.specs.Lent.{kept_in, SameLoans};
 ghost use Rattle.carrying.specs.Ending.{is_limit};
-ghost use Rattle.commanding.specs.World.{world, outcome_of};
+ghost use Rattle.commanding.specs.World.{world, outcome_of, stepped_as};
 ghost use Rattle.commanding.specs.Commanded.{leaves_on, commanded_of};
 
 use answer::Answer;
+use blocks::fram::Fram;
 use command::cost::command_cost;
 use judging::Unit;
 use line::packing::MESSAGE_SIZE;
@@ -26,6 +27,20 @@ pub struct Stepped {
     pub port: Side,
 }
 
+impl Stepped {
+    // An answer that cost nothing and of which nothing leaves.
+    pub fn quiet(unit: Unit, answer: Answer) -> Stepped
+        ensures { result ≡ stepped_as unit answer }
+    {
+        Stepped {
+            unit,
+            answer,
+            cost: 0,
+            port: Side::Zero,
+        }
+    }
+}
+
 // Where the longest data field ends in a buffer for a message.
 const DATA_END: usize = 1031;
 
@@ -33,8 +48,7 @@ fn leaves_on(fate: Fate, side: Side) -> Side
     ensures { result ≡ leaves_on fate side }
 {
     match fate {
-        Fate::Nothing => Side::Zero,
-        Fate::Lost => Side::Zero,
+        Fate::Nothing | Fate::Lost => Side::Zero,
         Fate::Leaves => side,
     }
 }
@@ -48,62 +62,52 @@ pub fn commanded(
     sending: bool,
     count: usize,
     edac: &mut [u8],
-    bootloader: &mut [u8],
-    bootloader_sums: &mut [u16],
-    fram: &mut [u8],
-    sums: &mut [u16],
+    bootloader: &mut Fram<'_, '_>,
+    user: &mut Fram<'_, '_>,
     diagnostics: &mut [u32],
     message: &[u8],
     reply0: &mut [u8],
     reply1: &mut [u8],
 ) -> Stepped
-    requires { (length edac.old ≡ edac_size) × (length bootloader.old ≡ block_start (length bootloader_sums.old))
-        × (length fram.old ≡ block_start (length sums.old)) × (length diagnostics.old ≡ channels)
+    requires { (length edac.old ≡ edac_size) × (length diagnostics.old ≡ channels)
         × (message_size ≤ length message.now) × (reply_size ≤ length reply0.old) × (reply_size ≤ length reply1.old)
         × (is_limit unit.limit ≡ true) × (shortest_message ≤ count) × (count ≤ message_size) }
-    ensures { (m0 m1 : List ℕ)
-        → outcome_of result (world edac.new (kept bootloader.new bootloader_sums.new) (kept fram.new sums.new) diagnostics.new m0 reply0.new m1 reply1.new)
-        ≡ commanded_of unit telemetry sending count message.now (world edac.old (kept bootloader.old bootloader_sums.old) (kept fram.old sums.old) diagnostics.old m0 reply0.old m1 reply1.old) }
+    ensures bootloader_lent { SameLoans bootloader.new bootloader.old }
+    ensures user_lent { SameLoans user.new user.old }
+    ensures outcome { (m0 m1 : List ℕ)
+        → outcome_of result (world edac.new (kept_in bootloader.new) (kept_in user.new) diagnostics.new m0 reply0.new m1 reply1.new)
+        ≡ commanded_of unit telemetry sending count message.now (world edac.old (kept_in bootloader.old) (kept_in user.old) diagnostics.old m0 reply0.old m1 reply1.old) }
 {
     let end = count - CRC_SIZE;
     let control = message[CONTROL];
     let code = control % CODES;
-    let mode = unit.mode;
-    let ports = unit.ports;
-    let room = unit.limit as usize;
     let field = &message[HEAD..end];
     let mut made = [0u8; MESSAGE_SIZE];
     let carried = command::carry_out(
-        room,
+        unit.limit as usize,
         code,
-        mode,
+        unit.mode,
         unit.locked,
         field,
         edac,
         bootloader,
-        bootloader_sums,
-        fram,
-        sums,
+        user,
         diagnostics,
         &mut made[HEAD..DATA_END],
     );
     let ended = carried.ended;
-    let after = carried.mode;
     let cost = command_cost(code, ended, field);
     let fate = replying::fate_of(ended, control, sending);
     let answer = replying::say_on(
         fate, telemetry, ended, count, message, &mut made, reply0, reply1,
     );
-    let settled = ports::settle(fate, telemetry, ports, diagnostics);
+    let ports = ports::settle(fate, telemetry, unit.ports, diagnostics);
     Stepped {
         unit: Unit {
-            strap: unit.strap,
-            limit: unit.limit,
-            mode: after,
+            mode: carried.mode,
             locked: carried.locked,
-            bootloader_len: unit.bootloader_len,
-            fram_len: unit.fram_len,
-            ports: settled,
+            ports,
+            ..unit
         },
         answer,
         cost,

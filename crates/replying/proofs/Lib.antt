@@ -1,3 +1,2 @@
 pub mod Sealing
 pub mod Saying
-pub mod OnPorts

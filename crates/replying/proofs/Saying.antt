@@ -1,43 +1,25 @@
 -- What is said to a command that was carried out: one law for each way. Assumes nothing.
 use mathlib.Core.Path.{◌≡◌, sym, ap, ◌∙◌}
 use mathlib.Core.List.{List}
-use Prim.Native.Nat.{ℕ, ◌-◌, ◌≤◌, ◌<◌}
+use Rattle.std.proofs.Common.{Err}
+use Prim.Native.Nat.{ℕ, ◌-◌, ◌≤◌}
 use native.Mathlib.Omega.{arith}
-use borrow.Author.Tests.{le-leb, lt-leb}
+use borrow.Author.Tests.{le-leb}
 use lib.ListN.{length, take, drop}
 use Rattle.line.specs.Packing.{packed_of}
 use Rattle.memory.specs.Bytes.{stretch, stored, begun}
 use Rattle.memory.proofs.Stretches.{stretch_of_a_store, length_of_a_stretch}
-use Rattle.carrying.specs.declared.Ended.{Ended}
-use Rattle.carrying.specs.declared.Ended.TheVariants as ended'
-use Rattle.answer.specs.declared.Answer.TheVariants.{Acked, Done, Nacked, Refused, Unfitted}
+use Rattle.carrying.specs.declared.CommandError.TheVariants as failed
+use Rattle.carrying.specs.Ending.{Ended}
+use Rattle.answer.specs.declared.Answer.TheVariants.{Nacked}
 use Rattle.replying.specs.Replies.{reply_message, said, saying, said_of, ending_of}
 
 module _ (ended : Ended) (destination source control : ℕ) (field made reply : List ℕ) where
-  pub said_unfitted : ended ≡ ended'.Unfitted → said Unfitted reply ≡ said_of destination source control field (ending_of ended made) reply
-  unfolding said_of
-  said_unfitted e = simp e
-
-  pub refused_silently : ended ≡ ended'.Refused → control < 128 → said Refused reply ≡ said_of destination source control field (ending_of ended made) reply
-  unfolding said_of saying
-  refused_silently e silent = simp (e, lt-leb 128 control silent)
-
-  pub refused_aloud : (n : ℕ) (after : List ℕ) → ended ≡ ended'.Refused → 128 ≤ control → n ≡ length (packed_of (reply_message 0 destination source control field))
+  pub refused_aloud : (n : ℕ) (after : List ℕ) → ended ≡ Err failed.Refused → 128 ≤ control → n ≡ length (packed_of (reply_message 0 destination source control field))
       → after ≡ begun reply (packed_of (reply_message 0 destination source control field))
       → said (Nacked n) after ≡ said_of destination source control field (ending_of ended made) reply
   unfolding said_of saying
   refused_aloud n after e polled size written = simp (e, le-leb 128 control polled, size, written)
-
-  pub done_silently : (size : ℕ) → ended ≡ ended'.Done size → control < 128 → said Done reply ≡ said_of destination source control field (ending_of ended made) reply
-  unfolding said_of saying
-  done_silently size e silent = simp (e, lt-leb 128 control silent)
-
-  pub done_aloud : (size n : ℕ) (after : List ℕ) → ended ≡ ended'.Done size → 128 ≤ control
-      → n ≡ length (packed_of (reply_message 1 destination source control (stretch 3 size made)))
-      → after ≡ begun reply (packed_of (reply_message 1 destination source control (stretch 3 size made)))
-      → said (Acked n) after ≡ said_of destination source control field (ending_of ended made) reply
-  unfolding said_of saying
-  done_aloud size n after e polled s written = simp (e, le-leb 128 control polled, s, written)
 
 -- the command's data, put into the scratch, stands there
 pub the_field_stands : (made message filled : List ℕ) (count : ℕ) → 5 ≤ count → count ≤ length message → 3 ≤ length made

@@ -1,14 +1,14 @@
 -- What becomes of a reply, and what is said on which port: 02, T-01. What stands in quotes is 02. Assumes nothing.
-use Rattle.std.specs.Prelude.{ℕ, Bool, true, false, cond, List}
-use Rattle.carrying.specs.declared.Ended.{Ended}
-use Rattle.carrying.specs.declared.Ended.TheVariants as ended
-use Rattle.carrying.specs.Ending.{Ending, ended_of}
+use Rattle.std.specs.Prelude.{ℕ, Bool, true, false, cond, Ok, Err, List}
+use Rattle.carrying.specs.declared.CommandError.TheVariants as failed
+use Rattle.carrying.specs.Ending.{Ended, Ending, ended_of}
 use Rattle.answer.specs.declared.Answer.{Answer}
 use Rattle.answer.specs.declared.Answer.TheVariants.{Done, Refused, Unfitted}
 use Rattle.ports.specs.declared.Side.{Side}
 use Rattle.ports.specs.declared.Fate.{Fate}
 use Rattle.ports.specs.declared.Fate.TheVariants.{Nothing, Lost, Leaves}
-use Rattle.ports.specs.Sides.{Both, of_side, put}
+use Rattle.ports.specs.declared.Both.{Both}
+use Rattle.ports.specs.Sides.{of_side, put}
 use Rattle.replying.specs.Replies.{polls, said_of}
 
 -- Poll set: "a reply for a sending port is lost", and any other leaves. Poll clear: there is none.
@@ -17,15 +17,15 @@ fate_of_reply control sending = cond (polls control) (cond sending Lost Leaves) 
 
 -- An access to memory not fitted has no reply either.
 unfoldable pub fate_of : Ended → ℕ → Bool → Fate
-fate_of (ended.Done size) control sending = fate_of_reply control sending
-fate_of ended.Refused control sending = fate_of_reply control sending
-fate_of ended.Unfitted control sending = Nothing
+fate_of (Ok size) control sending = fate_of_reply control sending
+fate_of (Err failed.Refused) control sending = fate_of_reply control sending
+fate_of (Err failed.Unfitted) control sending = Nothing
 
 -- The answer where nothing is sent: "a command done then answers 2 and a refused one 4".
 abbrev pub silent_of : Ended → Answer
-silent_of (ended.Done size) = Done
-silent_of ended.Refused = Refused
-silent_of ended.Unfitted = Unfitted
+silent_of (Ok size) = Done
+silent_of (Err failed.Refused) = Refused
+silent_of (Err failed.Unfitted) = Unfitted
 
 -- The answer, and the reply buffers of both ports afterwards.
 pub record SaidOn : Type 0 where

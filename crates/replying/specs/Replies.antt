@@ -1,11 +1,10 @@
 -- The message of a reply, and what is said to a command: 01, "The message" and "One byte in, one answer out"; ICD 10. Assumes nothing.
-use Rattle.std.specs.Prelude.{ℕ, ◌+◌, ◌*◌, ◌/◌, ◌%◌, Bool, cond, List, ◌∷◌, ◌++◌, leb, length}
+use Rattle.std.specs.Prelude.{ℕ, ◌+◌, ◌*◌, ◌/◌, ◌%◌, Bool, cond, Ok, Err, List, ◌∷◌, ◌++◌, leb, length}
 use Rattle.crc.specs.Sum.{sum_of}
 use Rattle.line.specs.Packing.{packed_of}
 use Rattle.memory.specs.Bytes.{stretch, begun}
-use Rattle.carrying.specs.declared.Ended.{Ended}
-use Rattle.carrying.specs.declared.Ended.TheVariants as ended
-use Rattle.carrying.specs.Ending.{Ending, done, refused, unfitted}
+use Rattle.carrying.specs.declared.CommandError.TheVariants as failed
+use Rattle.carrying.specs.Ending.{Ended, Ending, done, refused, unfitted}
 use Rattle.answer.specs.declared.Answer.{Answer}
 use Rattle.answer.specs.declared.Answer.TheVariants.{Acked, Done, Nacked, Refused, Unfitted}
 use Rattle.field.specs.Fields.{bytes16}
@@ -51,6 +50,6 @@ said_of destination source control field unfitted reply = said Unfitted reply
 
 -- What a handler came to, as an ending: the reply's data stands in `made` from place 3 on.
 abbrev pub ending_of : Ended → List ℕ → Ending (Unit {0})
-ending_of (ended.Done size) made = done (stretch 3 size made) tt
-ending_of ended.Refused made = refused
-ending_of ended.Unfitted made = unfitted
+ending_of (Ok size) made = done (stretch 3 size made) tt
+ending_of (Err failed.Refused) made = refused
+ending_of (Err failed.Unfitted) made = unfitted

@@ -8,14 +8,14 @@ use borrow.Author.Tests.{ne_eqb}
 use lib.Dec.{eqb}
 use lib.ListN.{length, get_or, drop, drop_of_length-le}
 use lib.Seq.{drop-cons}
+use Rattle.std.proofs.Common.{Ok, Err}
 use Rattle.ports.specs.declared.Side.{Side}
 use Rattle.ports.specs.declared.Side.TheVariants.{Zero, One}
 use Rattle.ports.specs.declared.Port.{Port}
-use Rattle.ports.specs.declared.Ports.{Ports}
-use Rattle.ports.specs.declared.Sending.{Sending}
-use Rattle.ports.specs.Sides.{side_of, Both, put}
-use Rattle.ports.specs.Ports.{port_of, with_port, count_of, AfterByte}
-use Rattle.ports.proofs.Sides.{put_there, put_back, put_over, port_put, port_put_back, port_put_over}
+use Rattle.ports.specs.declared.Both.{Both}
+use Rattle.ports.specs.Sides.{side_of, put}
+use Rattle.ports.specs.Ports.{Ports, Sending, port_of, with_port, count_of, AfterByte}
+use Rattle.ports.proofs.Sides.{put_there, put_back, put_over}
 use Rattle.ports.proofs.Bytes.{heard_low, heard_long}
 use Rattle.listening.specs.declared.Listened.{Listened}
 use Rattle.listening.specs.Listening.{closes, Listening, listening, listening_of, listen_of, listen_on_of}
@@ -26,17 +26,16 @@ use Rattle.answer.specs.declared.Answer.TheVariants.{Taken}
 use Rattle.answer.specs.Answers.{number_of}
 use Rattle.judging.specs.declared.Unit.{Unit}
 use Rattle.judging.specs.declared.Lengths.{Lengths}
-use Rattle.judging.specs.declared.fitting.Fit.TheVariants.{Fits, Unfit}
 use Rattle.judging.specs.Fitting.{largest_count, step_fit}
 use Rattle.judging.specs.Judging.{largest_message, with_ports, judge_of}
 use Rattle.judging.proofs.Serving.{a_served_record_is_sound, served_with_other_ports}
 use Rattle.judging.proofs.Numbers.{a_refused_step_has_its_number}
-use Rattle.commanding.specs.World.{World, message_of, lengths_of, Outcome, outcome, with_messages, with_message}
+use Rattle.commanding.specs.World.{World, message_of, lengths_of, Outcome, outcome, stepped_as, with_messages, with_message}
 use Rattle.unit.specs.Steps.{served_of, step_of}
 use Rattle.unit.proofs.Heard.{heard_on, unit_heard, world_heard, served_so, quietly, loudly}
 use Rattle.streaming.specs.declared.Many.{Many}
 use Rattle.streaming.specs.declared.Quiet.{Quiet}
-use Rattle.streaming.specs.Streams.{Stream, stream, behind, stream_of, steps_of, stepped_as, taken_of, refused_of, Quieting, quieting, quieting_of, quietly_of}
+use Rattle.streaming.specs.Streams.{Stream, stream, behind, stream_of, steps_of, taken_of, refused_of, Quieting, quieting, quieting_of, quietly_of}
 
 behind_both : (n m : ℕ) (rest : Stream) → behind n (behind m rest) ≡ behind (n + m) rest
 behind_both n m rest = let e : n + (m + rest.taken) ≡ n + m + rest.taken = omega arith in ap (λ (k : ℕ). stream k rest.last) e
@@ -56,18 +55,18 @@ lengths_with w message0 message1 = record {
   sums = length w.frams.user.sums;
   diagnostics = length w.diagnostics;
   message0 = message0;
-  reply0 = length w.buffers.replies.at0;
+  reply0 = length w.buffers.replies.port0;
   message1 = message1;
-  reply1 = length w.buffers.replies.at1;
+  reply1 = length w.buffers.replies.port1;
 }
 
 lengths_stay : (side : Side) (w : World) (message : List ℕ) → length message ≡ length (message_of side w) → lengths_of (with_message side w message) ≡ lengths_of w
-lengths_stay Zero w message same = ap (λ (n : ℕ). lengths_with w n (length w.buffers.messages.at1)) same
-lengths_stay One w message same = ap (λ (n : ℕ). lengths_with w (length w.buffers.messages.at0) n) same
+lengths_stay Zero w message same = ap (λ (n : ℕ). lengths_with w n (length w.buffers.messages.port1)) same
+lengths_stay One w message same = ap (λ (n : ℕ). lengths_with w (length w.buffers.messages.port0) n) same
 
 -- a unit that serves goes on serving, with another port whose count is not refused and a message buffer of the same length
-still_serves : (u : Unit) (number : ℕ) (w : World) (side : Side) (port : Port) (message : List ℕ) → step_fit u number (lengths_of w) ≡ Fits → count_of port ≤ largest_count
-    → length message ≡ length (message_of side w) → step_fit (with_ports u (with_port side u.ports port)) number (lengths_of (with_message side w message)) ≡ Fits
+still_serves : (u : Unit) (number : ℕ) (w : World) (side : Side) (port : Port) (message : List ℕ) → step_fit u number (lengths_of w) ≡ Ok tt → count_of port ≤ largest_count
+    → length message ≡ length (message_of side w) → step_fit (with_ports u (with_port side u.ports port)) number (lengths_of (with_message side w message)) ≡ Ok tt
 still_serves u number w side port message fits few same =
     ap (step_fit (with_ports u (with_port side u.ports port)) number) (lengths_stay side w message same)
     ∙ served_with_other_ports u number (lengths_of w) (with_port side u.ports port) fits (low side)
@@ -82,7 +81,7 @@ module _ (number : ℕ) (sending : Sending) where
   abbrev side : Side
   side = side_of number
 
-  module _ (u : Unit) (w : World) (fits : step_fit u number (lengths_of w) ≡ Fits) where
+  module _ (u : Unit) (w : World) (fits : step_fit u number (lengths_of w) ≡ Ok tt) where
     above : largest_message u.limit < largest_count
     above = omega (arith, (within_both_ends u.limit (a_served_record_is_sound u number (lengths_of w) fits).limit).1)
 
@@ -96,7 +95,7 @@ module _ (number : ℕ) (sending : Sending) where
         ∙ quietly (unit_heard u number byte w) side sending (world_heard u number byte w) (heard_on u number byte w).heard
         (what_a_byte_closes (largest_message u.limit) (port_of side u.ports) byte (message_of side w) ∙ none)
 
-    still_after_a_byte : (byte : ℕ) → step_fit (unit_heard u number byte w) number (lengths_of (world_heard u number byte w)) ≡ Fits
+    still_after_a_byte : (byte : ℕ) → step_fit (unit_heard u number byte w) number (lengths_of (world_heard u number byte w)) ≡ Ok tt
     still_after_a_byte byte =
         let largest = largest_message u.limit in
         still_serves u number w side (heard_on u number byte w).port (heard_on u number byte w).message fits
@@ -121,10 +120,10 @@ module _ (number : ℕ) (sending : Sending) where
   nothing_heard : (u : Unit) (bytes : List ℕ) (w : World) → steps_of u number bytes sending w ≡ rest u bytes w (port_of side u.ports) 0 (message_of side w)
   nothing_heard u bytes w =
       sym (behind_none _
-      ∙ ap₂ (λ p m. steps_of (with_ports u p) number bytes sending (with_messages w m)) (port_put_back side u.ports) (put_back side w.buffers.messages))
+      ∙ ap₂ (λ p m. steps_of (with_ports u p) number bytes sending (with_messages w m)) (put_back side u.ports) (put_back side w.buffers.messages))
 
   -- one byte that is only heard, before bytes of which this is known already
-  one_heard : (byte : ℕ) (bytes : List ℕ) (u : Unit) (w : World) → step_fit u number (lengths_of w) ≡ Fits
+  one_heard : (byte : ℕ) (bytes : List ℕ) (u : Unit) (w : World) → step_fit u number (lengths_of w) ≡ Ok tt
       → let v = unit_heard u number byte w in
       let x = world_heard u number byte w in
       let got = listened v bytes x in steps_of v number bytes sending x ≡ rest v bytes x got.port got.taken got.message
@@ -145,7 +144,7 @@ module _ (number : ℕ) (sending : Sending) where
 
       same : listened v bytes x ≡ next
       same =
-          ap₂ (λ p m. listen_of (largest_message u.limit) p bytes m) (port_put side u.ports got.port) (put_there side w.buffers.messages got.message)
+          ap₂ (λ p m. listen_of (largest_message u.limit) p bytes m) (put_there side u.ports got.port) (put_there side w.buffers.messages got.message)
 
       further : drop (1 + next.taken) (byte ∷ bytes) ≡ drop next.taken bytes
       further = let e : 1 + next.taken ≡ suc next.taken = omega arith in ap (λ (n : ℕ). drop n (byte ∷ bytes)) e
@@ -160,18 +159,18 @@ module _ (number : ℕ) (sending : Sending) where
           ∙ ap (λ (g : Listening (List ℕ)). behind 1 (rest v bytes x g.port g.taken g.message)) same
           ∙ behind_both 1 next.taken _
           ∙ ap₂ (λ p m. behind (1 + next.taken) (steps_of (with_ports u p) number (drop next.taken bytes) sending (with_messages w m)))
-          (port_put_over side u.ports got.port next.port) (put_over side w.buffers.messages got.message next.message)
+          (put_over side u.ports got.port next.port) (put_over side w.buffers.messages got.message next.message)
           ∙ ap (λ l. behind (1 + next.taken) (steps_of (with_ports u (with_port side u.ports next.port)) number l sending (with_message side w next.message))) (sym further)
 
   -- All of them are taken one by one, up to where listening stops.
-  quiet_bytes : (bytes : List ℕ) (u : Unit) (w : World) → step_fit u number (lengths_of w) ≡ Fits
+  quiet_bytes : (bytes : List ℕ) (u : Unit) (w : World) → step_fit u number (lengths_of w) ≡ Ok tt
       → let got = listened u bytes w in steps_of u number bytes sending w ≡ rest u bytes w got.port got.taken got.message
   quiet_bytes [] u w fits = nothing_heard u [] w
   quiet_bytes (byte ∷ bytes) u w fits = one_heard byte bytes u w fits (quiet_bytes bytes (unit_heard u number byte w) (world_heard u number byte w) (still_after_a_byte u w fits byte))
 
   module _ (u : Unit) (bytes : List ℕ) (w : World) where
     -- a call that is refused
-    pub a_refused_call : (answer : Answer) (many : Many) → step_fit u number (lengths_of w) ≡ Unfit answer → many ≡ refused_of u answer (length bytes) → stream_of many w ≡ steps_of u number bytes sending w
+    pub a_refused_call : (answer : Answer) (many : Many) → step_fit u number (lengths_of w) ≡ Err answer → many ≡ refused_of u answer (length bytes) → stream_of many w ≡ steps_of u number bytes sending w
     unfolding step_of judge_of served_of
     a_refused_call answer many e is = ap (λ (r : Many). stream_of r w) is ∙ apart bytes
       where
@@ -186,7 +185,7 @@ module _ (number : ℕ) (sending : Sending) where
             ∙ ap (λ b. cond b (behind 1 (steps_of u number l sending w)) (stream 1 (outcome u answer w))) loud)
 
     -- one that is not
-    module _ (fits : step_fit u number (lengths_of w) ≡ Fits) where
+    module _ (fits : step_fit u number (lengths_of w) ≡ Ok tt) where
       abbrev quiet : Quieting
       quiet = quietly_of u number bytes w.buffers.messages
 
@@ -206,7 +205,7 @@ module _ (number : ℕ) (sending : Sending) where
           (still_serves u number w side got.port got.message fits (a_count_stays_low largest largest_count (above u w fits) bytes (port_of side u.ports) (message_of side w) (few u w fits side))
           (a_buffer_keeps_its_length largest bytes (port_of side u.ports) (message_of side w)))
           (get_or bytes got.taken 0)
-          (ap (λ p. closes p (get_or bytes got.taken 0)) (port_put side u.ports got.port) ∙ closing)
+          (ap (λ p. closes p (get_or bytes got.taken 0)) (put_there side u.ports got.port) ∙ closing)
 
       -- ---- the two ways in which it ends
 
@@ -251,5 +250,5 @@ those_of_a_port u number bytes messages side port r after ports is at heard put 
     quieting (with_ports u (with_port s u.ports got.port)) got.taken got.message) is
 
 -- the limit of a call that is not refused
-pub no_longer_than_any : (u : Unit) (number : ℕ) (l : Lengths) → step_fit u number l ≡ Fits → u.limit ≤ 1028
+pub no_longer_than_any : (u : Unit) (number : ℕ) (l : Lengths) → step_fit u number l ≡ Ok tt → u.limit ≤ 1028
 no_longer_than_any u number l fits = (within_both_ends u.limit (a_served_record_is_sound u number l fits).limit).1

@@ -3,15 +3,13 @@ use Rattle.std.specs.Prelude.{ℕ, ◌+◌, cond, List, [], ◌∷◌, eqb}
 use Rattle.answer.specs.declared.Answer.{Answer}
 use Rattle.answer.specs.declared.Answer.TheVariants.{Taken}
 use Rattle.answer.specs.Answers.{number_of}
-use Rattle.ports.specs.declared.Side.TheVariants.{Zero}
-use Rattle.ports.specs.declared.Sending.{Sending}
-use Rattle.ports.specs.Sides.{side_of, Both}
-use Rattle.ports.specs.Ports.{port_of, with_port}
+use Rattle.ports.specs.declared.Both.{Both}
+use Rattle.ports.specs.Sides.{side_of}
+use Rattle.ports.specs.Ports.{Sending, port_of, with_port}
 use Rattle.listening.specs.Listening.{listen_on_of}
 use Rattle.judging.specs.declared.Unit.{Unit}
 use Rattle.judging.specs.Judging.{largest_message, with_ports}
-use Rattle.commanding.specs.declared.Stepped.{Stepped}
-use Rattle.commanding.specs.World.{World, Outcome, outcome, outcome_of}
+use Rattle.commanding.specs.World.{World, Outcome, outcome, stepped_as, outcome_of}
 use Rattle.unit.specs.Steps.{step_of}
 use Rattle.streaming.specs.declared.Quiet.{Quiet}
 use Rattle.streaming.specs.declared.Many.{Many}
@@ -45,9 +43,6 @@ steps_of u number (byte ∷ bytes) sending w =
 -- ---- the ways in which it ends
 
 -- What is given back where all bytes were only taken, and where the call is refused: its first byte is lost, if it has one.
-abbrev pub stepped_as : Unit → Answer → Stepped
-stepped_as u answer = record { unit = u; answer = answer; cost = 0; port = Zero }
-
 abbrev pub taken_of : Unit → ℕ → Many
 taken_of u taken = record { last = stepped_as u Taken; taken = taken }
 

@@ -10,7 +10,7 @@ ghost use Rattle.streaming.specs.Streams.{stream_of, steps_of, taken_of, refused
 
 use answer::Answer;
 use commanding::Stepped;
-use judging::fitting::{Fit, step_fit};
+use judging::fitting::step_fit;
 use judging::{Lengths, Unit};
 use line::packing::SHORTEST_MESSAGE;
 use listening::listen_on;
@@ -35,12 +35,7 @@ fn only_taken(unit: Unit, taken: usize) -> Many
     ensures { result ≡ taken_of unit taken }
 {
     Many {
-        last: Stepped {
-            unit,
-            answer: Answer::Taken,
-            cost: 0,
-            port: Side::Zero,
-        },
+        last: Stepped::quiet(unit, Answer::Taken),
         taken,
     }
 }
@@ -53,12 +48,7 @@ fn refused(unit: Unit, answer: Answer, bytes: usize) -> Many
         return only_taken(unit, 0);
     }
     Many {
-        last: Stepped {
-            unit,
-            answer,
-            cost: 0,
-            port: Side::Zero,
-        },
+        last: Stepped::quiet(unit, answer),
         taken: 1,
     }
 }
@@ -69,24 +59,13 @@ fn quietly(unit: Unit, port: u8, bytes: &[u8], message0: &mut [u8], message1: &m
     ensures { quieting_of result (both message0.new message1.new)
         ≡ quietly_of unit port bytes.now (both message0.old message1.old) }
 {
-    let side = ports::side_of(port);
-    let mode = unit.mode;
-    let before = unit.ports;
+    let side = Side::from(port);
     let largest = unit.limit + SHORTEST_MESSAGE as u16;
-    let was = ports::port_of(side, before);
+    let was = unit.ports.of(side);
     let got = listen_on(side, largest, was, bytes, message0, message1);
-    let now = got.port;
-    let ports = ports::with_port(side, before, now);
+    let ports = unit.ports.with(side, got.port);
     Quiet {
-        unit: Unit {
-            strap: unit.strap,
-            limit: unit.limit,
-            mode,
-            locked: unit.locked,
-            bootloader_len: unit.bootloader_len,
-            fram_len: unit.fram_len,
-            ports,
-        },
+        unit: Unit { ports, ..unit },
         taken: got.taken,
     }
 }
@@ -124,35 +103,31 @@ pub fn steps(
         reply1: reply1.len(),
     };
     // Judged here too, and not by the step alone, so that the compiler can tell there what has passed already.
-    let fit = step_fit(unit, port, lengths);
-    match fit {
-        Fit::Unfit(answer) => refused(unit, answer, bytes.len()),
-        Fit::Fits => {
-            let heard = quietly(unit, port, bytes, message0, message1);
-            let next = heard.unit;
-            let taken = heard.taken;
-            if taken < bytes.len() {
-                let byte = bytes[taken];
-                let all = taken + 1;
-                let last = unit::step(
-                    next,
-                    port,
-                    byte,
-                    sending,
-                    edac,
-                    bootloader,
-                    bootloader_sums,
-                    fram,
-                    sums,
-                    diagnostics,
-                    message0,
-                    reply0,
-                    message1,
-                    reply1,
-                );
-                return Many { last, taken: all };
-            }
-            only_taken(next, taken)
-        }
+    if let Err(answer) = step_fit(unit, port, lengths) {
+        return refused(unit, answer, bytes.len());
+    }
+    let heard = quietly(unit, port, bytes, message0, message1);
+    let Some(byte) = bytes.get(heard.taken) else {
+        return only_taken(heard.unit, heard.taken);
+    };
+    let last = unit::step(
+        heard.unit,
+        port,
+        *byte,
+        sending,
+        edac,
+        bootloader,
+        bootloader_sums,
+        fram,
+        sums,
+        diagnostics,
+        message0,
+        reply0,
+        message1,
+        reply1,
+    );
+    Many {
+        last,
+        taken: heard.taken + 1,
     }
 }

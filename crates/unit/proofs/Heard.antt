@@ -6,16 +6,15 @@ use Prim.Native.Nat.{ℕ, ◌≤◌}
 use native.Mathlib.Omega.{arith}
 use lib.Dec.{ltb}
 use lib.ListN.{get_or}
+use Rattle.std.proofs.Common.{Option, Some, None, Ok}
 use Rattle.line.specs.declared.receiver.Heard.{Heard}
 use Rattle.line.specs.declared.receiver.Heard.TheVariants as heard
 use Rattle.line.specs.Packing.{shortest_message}
 use Rattle.ports.specs.declared.Side.{Side}
-use Rattle.ports.specs.declared.Sending.{Sending}
 use Rattle.ports.specs.declared.Fate.{Fate}
-use Rattle.ports.specs.declared.Answered.{Answered}
-use Rattle.ports.specs.declared.Answered.TheVariants.{On, Nowhere}
-use Rattle.ports.specs.Sides.{side_of, Both, of_side}
-use Rattle.ports.specs.Ports.{answered_on, port_of, with_port, AfterByte, hear_of, closes_some}
+use Rattle.ports.specs.declared.Both.{Both}
+use Rattle.ports.specs.Sides.{side_of, of_side}
+use Rattle.ports.specs.Ports.{Sending, answered_on, port_of, with_port, AfterByte, hear_of, closes_some}
 use Rattle.ports.proofs.Sides.{put_there}
 use Rattle.carrying.specs.Ending.{Ending, done, refused, unfitted, ended_of}
 use Rattle.carrying.proofs.Room.{either_way}
@@ -23,7 +22,6 @@ use Rattle.answer.specs.declared.Answer.TheVariants.{Taken}
 use Rattle.answer.specs.Answers.{number_of}
 use Rattle.judging.specs.declared.Unit.{Unit}
 use Rattle.judging.specs.declared.Verdict.{Verdict}
-use Rattle.judging.specs.declared.fitting.Fit.TheVariants.{Fits}
 use Rattle.judging.specs.Fitting.{step_fit}
 use Rattle.judging.specs.Judging.{largest_message, sound_of, command_on, run_of, verdict_of, with_ports, received_of, among_both, unless, judge_of}
 use Rattle.replying.specs.Replies.{polls, saying, said_of, Said}
@@ -49,7 +47,7 @@ world_heard u number byte w = with_message (side_of number) w (heard_on u number
 abbrev served : Unit → Side → Heard → Sending → World → Outcome
 served u side h sending w = served_of u (verdict_of (largest_message u.limit) u.strap side h (message_of side w)) sending (message_of side w) w
 
-pub served_so : (u : Unit) (number byte : ℕ) (sending : Sending) (w : World) → step_fit u number (lengths_of w) ≡ Fits
+pub served_so : (u : Unit) (number byte : ℕ) (sending : Sending) (w : World) → step_fit u number (lengths_of w) ≡ Ok tt
     → step_of u number byte sending w ≡ served (unit_heard u number byte w) (side_of number) (heard_on u number byte w).heard sending (world_heard u number byte w)
 unfolding step_of judge_of received_of
 served_so u number byte sending w fits =
@@ -95,10 +93,10 @@ module _ (u : Unit) (side : Side) (sending : Sending) (w : World) where
   abbrev Spoken : Verdict → Type 0
   Spoken v = Loud (served_of u v sending (message_of side w) w)
 
-  by_address : (count : ℕ) (a : Answered) → Spoken (command_on a count)
+  by_address : (count : ℕ) (a : Option Side) → Spoken (command_on a count)
   unfolding served_of commanded_of answered
-  by_address count (On telemetry) = a_command_has_an_answer _ _ _ _ _ _ _ _
-  by_address count Nowhere = omega arith
+  by_address count (Some telemetry) = a_command_has_an_answer _ _ _ _ _ _ _ _
+  by_address count None = omega arith
 
   by_its_tests : (count : ℕ) → Spoken (run_of (largest_message u.limit) u.strap side count (message_of side w))
   unfolding served_of run_of

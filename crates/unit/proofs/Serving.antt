@@ -1,8 +1,9 @@
 -- One law for each way through the two calls. Assumes nothing.
-use mathlib.Core.Path.{◌≡◌, sym, ap, ap₂, ◌∙◌, subst}
+use mathlib.Core.Path.{◌≡◌, refl, sym, ap, ap₂, ◌∙◌, subst}
 use mathlib.Core.Bool.{Bool}
 use mathlib.Core.List.{List}
 use Prim.Native.Nat.{ℕ}
+use Rattle.std.proofs.Common.{Ok, Err}
 use Rattle.memory.specs.Counts.{counted_up}
 use Rattle.memory.specs.Status.{status_written}
 use Rattle.blocks.specs.Fram.{kept, fresh_sums}
@@ -10,28 +11,31 @@ use Rattle.carrying.specs.Held.{frams}
 use Rattle.answer.specs.declared.Answer.{Answer}
 use Rattle.answer.specs.declared.Answer.TheVariants.{Taken}
 use Rattle.ports.specs.declared.Side.{Side}
-use Rattle.ports.specs.declared.Ports.{Ports}
-use Rattle.ports.specs.declared.Sending.{Sending}
-use Rattle.ports.specs.Sides.{side_of, Both, of_side}
-use Rattle.ports.specs.Ports.{both_fresh, is_sending}
+use Rattle.ports.specs.declared.Both.{Both}
+use Rattle.ports.specs.Sides.{side_of, of_side}
+use Rattle.ports.specs.Ports.{Ports, Sending, both_fresh, is_sending}
 use Rattle.judging.specs.declared.Unit.{Unit}
 use Rattle.judging.specs.declared.Judged.{Judged}
 use Rattle.judging.specs.declared.Verdict.{Verdict}
 use Rattle.judging.specs.declared.Verdict.TheVariants.{Quiet, Dropped, Command}
-use Rattle.judging.specs.declared.fitting.Fit.TheVariants.{Fits, Unfit}
-use Rattle.judging.specs.Fitting.{set_up_fit}
+use Rattle.judging.specs.Fitting.{Fit, set_up_fit}
 use Rattle.judging.specs.Judging.{Judging, with_ports, judging_of, judge_of}
 use Rattle.judging.proofs.Serving.{Guaranteed, what_a_verdict_guarantees}
 use Rattle.commanding.specs.World.{World, lengths_of, Outcome, outcome, with_frams, with_messages, with_diagnostics}
 use Rattle.commanding.specs.Commanded.{commanded_of}
 use Rattle.unit.specs.Steps.{nobody, somebody, set_up_of, served_of, step_of}
 
-pub set_up_refused : (strap limit : ℕ) (locked : Bool) (w : World) (ports : Ports) (answer : Answer) → set_up_fit strap limit (lengths_of w) ≡ Unfit answer → ports ≡ both_fresh
+-- what is not refused is served
+pub served_where_not_refused : (fit : Fit) → ((answer : Answer) → fit ≡ Err answer → ⊥) → fit ≡ Ok tt
+served_where_not_refused (Ok _) never = refl
+served_where_not_refused (Err answer) never = absurd (never answer refl)
+
+pub set_up_refused : (strap limit : ℕ) (locked : Bool) (w : World) (ports : Ports) (answer : Answer) → set_up_fit strap limit (lengths_of w) ≡ Err answer → ports ≡ both_fresh
     → outcome (with_ports nobody ports) answer w ≡ set_up_of strap limit locked w
 unfolding set_up_of
 set_up_refused strap limit locked w ports answer e fresh = simp e (ap (λ p. outcome (with_ports nobody p) answer w) fresh)
 
-pub set_up_served : (strap limit : ℕ) (locked : Bool) (w : World) (ports : Ports) (bootloaders users diagnostics : List ℕ) → set_up_fit strap limit (lengths_of w) ≡ Fits
+pub set_up_served : (strap limit : ℕ) (locked : Bool) (w : World) (ports : Ports) (bootloaders users diagnostics : List ℕ) → set_up_fit strap limit (lengths_of w) ≡ Ok tt
     → ports ≡ both_fresh
     → bootloaders ≡ fresh_sums w.frams.bootloader.fram → users ≡ fresh_sums w.frams.user.fram → diagnostics ≡ status_written locked w.diagnostics
     → outcome (with_ports (somebody strap limit locked w) ports) Taken

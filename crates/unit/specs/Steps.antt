@@ -1,21 +1,18 @@
 -- Set-up, and one byte in and one answer out: 01, "The unit and its neighbours" and "One byte in, one answer out"; 02, T-01, T-06 and T-07. Assumes
 -- nothing.
-use Rattle.std.specs.Prelude.{ℕ, Bool, false, List, length}
+use Rattle.std.specs.Prelude.{ℕ, Bool, false, List, length, Ok, Err}
 use Rattle.memory.specs.Counts.{counted_up}
 use Rattle.memory.specs.Status.{status_written}
 use Rattle.blocks.specs.Fram.{Kept, kept, fresh_sums}
 use Rattle.carrying.specs.declared.Mode.TheVariants.{Bootloader}
 use Rattle.carrying.specs.Held.{Frams, frams}
 use Rattle.answer.specs.declared.Answer.TheVariants.{Taken}
-use Rattle.ports.specs.declared.Sending.{Sending}
 use Rattle.ports.specs.Sides.{side_of, of_side}
-use Rattle.ports.specs.Ports.{both_fresh, is_sending}
+use Rattle.ports.specs.Ports.{Sending, both_fresh, is_sending}
 use Rattle.judging.specs.declared.Unit.{Unit}
 use Rattle.judging.specs.declared.Verdict.{Verdict}
 use Rattle.judging.specs.declared.Verdict.TheVariants.{Quiet, Dropped, Command}
-use Rattle.judging.specs.declared.fitting.Fit.{Fit}
-use Rattle.judging.specs.declared.fitting.Fit.TheVariants.{Fits, Unfit}
-use Rattle.judging.specs.Fitting.{set_up_fit}
+use Rattle.judging.specs.Fitting.{Fit, set_up_fit}
 use Rattle.judging.specs.Judging.{judge_of}
 use Rattle.commanding.specs.World.{World, lengths_of, Outcome, outcome, with_frams, with_messages, with_diagnostics}
 use Rattle.commanding.specs.Commanded.{commanded_of}
@@ -51,8 +48,8 @@ prepared_for locked w = with_diagnostics (with_frams w (both_summed w.frams)) (s
 
 -- A refused set-up changes nothing that is lent.
 abbrev pub set_up_as : Fit → ℕ → ℕ → Bool → World → Outcome
-set_up_as (Unfit answer) strap limit locked w = outcome nobody answer w
-set_up_as Fits strap limit locked w = outcome (somebody strap limit locked w) Taken (prepared_for locked w)
+set_up_as (Err answer) strap limit locked w = outcome nobody answer w
+set_up_as (Ok _) strap limit locked w = outcome (somebody strap limit locked w) Taken (prepared_for locked w)
 
 -- Set-up computes all sums, starts in bootloader mode with both receivers fresh and with bootloader FRAM locked or not as it is told, which it
 -- shows in the diagnostics, answers 0 and changes nothing else that is lent.

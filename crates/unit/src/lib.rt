@@ -8,15 +8,16 @@ ghost use Rattle.commanding.specs.World.{world, outcome_of};
 ghost use Rattle.unit.specs.Steps.{set_up_of, step_of};
 
 pub use answer::Answer;
+use blocks::fram::Fram;
 use carrying::Mode;
 pub use commanding::Stepped;
 use commanding::commanded;
 pub use judging::Unit;
-use judging::fitting::{Fit, set_up_fit};
+use judging::fitting::set_up_fit;
 use judging::{Lengths, Verdict};
 use line::receiver::{Place, Receiver};
 use memory::status::write_status;
-use ports::{Port, Ports, Sending, Side};
+use ports::{Both, Port, Ports, Sending, Side};
 
 // The strap that a refused set-up hands back, which no unit has.
 const NOBODY: u8 = 8;
@@ -29,7 +30,7 @@ fn both_fresh() -> Ports
         place: Place::Fresh,
         count: 0,
     };
-    Ports {
+    Both {
         port0: Port::Hearing(fresh),
         port1: Port::Hearing(fresh),
     }
@@ -69,43 +70,31 @@ pub fn set_up(
         reply1: reply1.len(),
     };
     let ports = both_fresh();
-    let fit = set_up_fit(strap, limit, lengths);
-    match fit {
-        Fit::Unfit(answer) => Stepped {
-            unit: Unit {
-                strap: NOBODY,
-                limit: 0,
-                mode: Mode::Bootloader,
-                locked: false,
-                bootloader_len: 0,
-                fram_len: 0,
-                ports,
-            },
-            answer,
-            cost: 0,
-            port: Side::Zero,
-        },
-        Fit::Fits => {
-            blocks::compute_sums(bootloader, bootloader_sums);
-            blocks::compute_sums(fram, sums);
-            write_status(diagnostics, locked);
-            let kept = limit as u16;
-            Stepped {
-                unit: Unit {
-                    strap,
-                    limit: kept,
-                    mode: Mode::Bootloader,
-                    locked,
-                    bootloader_len: bootloader.len(),
-                    fram_len: fram.len(),
-                    ports,
-                },
-                answer: Answer::Taken,
-                cost: 0,
-                port: Side::Zero,
-            }
-        }
+    if let Err(answer) = set_up_fit(strap, limit, lengths) {
+        let nobody = Unit {
+            strap: NOBODY,
+            limit: 0,
+            mode: Mode::Bootloader,
+            locked: false,
+            bootloader_len: 0,
+            fram_len: 0,
+            ports,
+        };
+        return Stepped::quiet(nobody, answer);
     }
+    blocks::compute_sums(bootloader, bootloader_sums);
+    blocks::compute_sums(fram, sums);
+    write_status(diagnostics, locked);
+    let unit = Unit {
+        strap,
+        limit: limit as u16,
+        mode: Mode::Bootloader,
+        locked,
+        bootloader_len: bootloader.len(),
+        fram_len: fram.len(),
+        ports,
+    };
+    Stepped::quiet(unit, Answer::Taken)
 }
 
 // One byte in on a port, one answer out. `sending` says which ports are sending now.
@@ -141,38 +130,28 @@ pub fn step(
         reply1: reply1.len(),
     };
     let judged = judging::judge(unit, port, byte, lengths, message0, message1);
-    let next = judged.unit;
-    let verdict = judged.verdict;
-    match verdict {
-        Verdict::Quiet(answer) => Stepped {
-            unit: next,
-            answer,
-            cost: 0,
-            port: Side::Zero,
-        },
+    match judged.verdict {
+        Verdict::Quiet(answer) => Stepped::quiet(judged.unit, answer),
         Verdict::Dropped(answer, channel) => {
             memory::counts::count_up(diagnostics, channel);
-            Stepped {
-                unit: next,
-                answer,
-                cost: 0,
-                port: Side::Zero,
-            }
+            Stepped::quiet(judged.unit, answer)
         }
         Verdict::Command(count, telemetry) => {
-            let side = ports::side_of(port);
-            let is_sending = ports::is_sending(telemetry, sending);
-            let message = ports::heard_by(side, message0, message1);
+            let message = ports::heard_by(Side::from(port), message0, message1);
+            // One that is judged a command was lent as many sums as blocks.
+            let mut bootloader = Fram {
+                bytes: bootloader,
+                sums: bootloader_sums,
+            };
+            let mut user = Fram { bytes: fram, sums };
             commanded(
-                next,
+                judged.unit,
                 telemetry,
-                is_sending,
+                sending.of(telemetry),
                 count,
                 edac,
-                bootloader,
-                bootloader_sums,
-                fram,
-                sums,
+                &mut bootloader,
+                &mut user,
                 diagnostics,
                 message,
                 reply0,

@@ -7,4 +7,4 @@ pub returns : goal.returns
 returns c =
     let a = c.args in
     those_of_a_port a.unit a.port a.bytes.now (both a.message0.now a.message1.now) _ _ c.listen_on-got.result (both _ _) _
-    c.side_of-side.ensures c.port_of-was.ensures c.listen_on-got.ensures c.with_port-ports.ensures
+    c.from-side.ensures c.of-was.ensures c.listen_on-got.ensures c.with-ports.ensures
