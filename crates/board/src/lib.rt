@@ -14,8 +14,9 @@ ghost use Rattle.unit.specs.Steps.{set_up_of, step_of};
 ghost use Rattle.streaming.specs.Streams.{steps_of};
 ghost use Rattle.face.specs.Records.{lock_in, sending_in, unit_in, returned, returned_by, returned_many, returned_many_by, packing_by};
 
-use face::converting::{lock_in, many_out, sending_in, stepped_out, unit_in};
+use face::converting::{lock_in, sending_in};
 use face::{WheelJoined, WheelMany, WheelPacked, WheelPart, WheelStepped, WheelUnit};
+use judging::Unit;
 
 pub fn wheel_crc(bytes: &[u8]) -> u16
     ensures { result ≡ sum_of bytes.now }
@@ -53,10 +54,9 @@ pub fn wheel_set_up(
     ensures { returned result (world edac.now (kept bootloader.now bootloader_sums.new) (kept fram.now sums.new) diagnostics.new message0.now reply0.now message1.now reply1.now)
         ≡ returned_by (set_up_of strap limit (lock_in locked) (world edac.now (kept bootloader.now bootloader_sums.old) (kept fram.now sums.old) diagnostics.old message0.now reply0.now message1.now reply1.now)) }
 {
-    let most = limit as usize;
-    stepped_out(unit::set_up(
+    WheelStepped::from(unit::set_up(
         strap,
-        most,
+        limit as usize,
         lock_in(locked),
         edac,
         bootloader,
@@ -91,8 +91,8 @@ pub fn wheel_step(
     ensures { returned result (world edac.new (kept bootloader.new bootloader_sums.new) (kept fram.new sums.new) diagnostics.new message0.new reply0.new message1.new reply1.new)
         ≡ returned_by (step_of (unit_in unit) port byte (sending_in sending0 sending1) (world edac.old (kept bootloader.old bootloader_sums.old) (kept fram.old sums.old) diagnostics.old message0.old reply0.old message1.old reply1.old)) }
 {
-    stepped_out(unit::step(
-        unit_in(unit),
+    WheelStepped::from(unit::step(
+        Unit::from(unit),
         port,
         byte,
         sending_in(sending0, sending1),
@@ -130,8 +130,8 @@ pub fn wheel_steps(
         ≡ returned_many_by (steps_of (unit_in unit) number bytes.now (sending_in sending0 sending1) (world edac.old (kept bootloader.old bootloader_sums.old) (kept fram.old sums.old) diagnostics.old message0.old reply0.old message1.old reply1.old)) }
 {
     let told = sending_in(sending0, sending1);
-    many_out(streaming::steps(
-        unit_in(unit),
+    WheelMany::from(streaming::steps(
+        Unit::from(unit),
         number,
         bytes,
         told,

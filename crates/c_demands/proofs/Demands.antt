@@ -10,6 +10,7 @@ use native.Mathlib.Omega.{arith}
 use lib.Dec.{eqb}
 use lib.ListN.{length, take, drop, get_or, replicate, length-append}
 use lib.Seq.{take-append_seam, get_or-append_seam}
+use Rattle.std.proofs.Common.{Some, Ok, Err}
 use Rattle.crc.specs.Sum.{sum_of}
 use Rattle.line.specs.Framing.{fend}
 use Rattle.line.specs.Receiver.{opened}
@@ -33,14 +34,10 @@ use Rattle.answer.specs.declared.Answer.TheVariants.{Taken}
 use Rattle.ports.specs.declared.Side.{Side}
 use Rattle.ports.specs.declared.Side.TheVariants.{Zero, One}
 use Rattle.ports.specs.declared.Port.TheVariants.{Hearing, Throwing}
-use Rattle.ports.specs.declared.Sending.{Sending}
-use Rattle.ports.specs.declared.Answered.TheVariants.{On}
 use Rattle.ports.specs.Sides.{side_of, number_of_side, of_side}
-use Rattle.ports.specs.Ports.{port_of, count_of, is_sending}
+use Rattle.ports.specs.Ports.{Sending, port_of, count_of, is_sending}
 use Rattle.judging.specs.declared.Unit.{Unit}
-use Rattle.judging.specs.declared.fitting.Fit.{Fit}
-use Rattle.judging.specs.declared.fitting.Fit.TheVariants.{Fits, Unfit}
-use Rattle.judging.specs.Fitting.{set_up_fit}
+use Rattle.judging.specs.Fitting.{Fit, set_up_fit}
 use Rattle.judging.specs.Judging.{largest_message}
 use Rattle.replying.specs.Replies.{code_of, sealed, reply_message}
 use Rattle.commanding.specs.World.{World, message_of, reply_of, lengths_of, Outcome, with_frams, with_message}
@@ -158,7 +155,7 @@ module _ (u : WheelUnit) (c : FromC) (steps : Steps u c) where
             (ap₂ (λ (p n : ℕ). cond (eqb (number_of_side s) p) n 0) port_number size) left);
         ours = λ one. leaves.ours (ap is_commanded (sym number) ∙ one);
         leaving = λ loud.
-            let all = leaves.leaving (ap has_reply (sym number) ∙ loud) in (all.0 ∙ ap On (sym port), all.1, ap (λ (s : Side). is_sending s busy) port ∙ all.2);
+            let all = leaves.leaving (ap has_reply (sym number) ∙ loud) in (all.0 ∙ ap Some (sym port), all.1, ap (λ (s : Side). is_sending s busy) port ∙ all.2);
         losing = λ hushed. leaves.losing (ap is_unsaid (sym number) ∙ hushed);
         on_no_port = λ none. port_number ∙ ap number_of_side (leaves.on_no_port (ap has_reply (sym number) ∙ none));
         strap = ap (λ (r : WheelUnit). r.strap) back ∙ leaves.strap;
@@ -392,13 +389,13 @@ calls_from_c (c ∷ calls) u now follow =
     (next u c follow.1 ∙ ap (λ (x : Outcome). x.unit) lent) (left u c follow.1 ∙ ap (λ (x : Outcome). x.world) lent)
 
 -- a set-up that answers 0 is not refused
-set_up_so : (strap limit : ℕ) (locked : Bool) (w : World) → number_of (set_up_of strap limit locked w).answer ≡ 0 → set_up_fit strap limit (lengths_of w) ≡ Fits
+set_up_so : (strap limit : ℕ) (locked : Bool) (w : World) → number_of (set_up_of strap limit locked w).answer ≡ 0 → set_up_fit strap limit (lengths_of w) ≡ Ok tt
 unfolding set_up_of
 set_up_so strap limit locked w none = apart (set_up_fit strap limit (lengths_of w)) refl none
   where
-    apart : (f : Fit) → set_up_fit strap limit (lengths_of w) ≡ f → number_of (set_up_as f strap limit locked w).answer ≡ 0 → f ≡ Fits
-    apart Fits e z = refl
-    apart (Unfit answer) e z = absurd (a_refused_set_up_is_no_0 limit (number_of answer) (a_refused_set_up_has_its_number strap limit (lengths_of w) answer e) z)
+    apart : (f : Fit) → set_up_fit strap limit (lengths_of w) ≡ f → number_of (set_up_as f strap limit locked w).answer ≡ 0 → f ≡ Ok tt
+    apart (Ok _) e z = refl
+    apart (Err answer) e z = absurd (a_refused_set_up_is_no_0 limit (number_of answer) (a_refused_set_up_has_its_number strap limit (lengths_of w) answer e) z)
 
 -- Demand 1, of `wheel_set_up`: 0 computes all sums, writes the low byte of diagnostic 0x06 and changes nothing else that is lent; 20 to 25 and 29
 -- change nothing at all. Neither costs anything, and neither sends anything.
@@ -431,7 +428,7 @@ module _ (strap limit locked : ℕ) (lent : World) (back : WheelStepped) (after 
   abbrev record_now : WheelUnit
   record_now = last_unit back.unit calls
 
-  fits : set_up_fit strap limit (lengths_of lent) ≡ Fits
+  fits : set_up_fit strap limit (lengths_of lent) ≡ Ok tt
   fits = set_up_so strap limit (lock_in locked) lent (sym (ap (λ (r : Returned). r.stepped.answer) sets_up) ∙ served)
 
   now : own (unit_in record_now) frams_now ≡ called_of (own_of (set_up_of strap limit (lock_in locked) lent)) (as_lending calls)

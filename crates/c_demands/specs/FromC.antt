@@ -1,13 +1,12 @@
 -- Calls of the functions of include/wheel.h, as their caller sees them: 01, "The unit and its neighbours" and "One byte in, one answer
 -- out"; 02, T-01. Assumes nothing.
-use Rattle.std.specs.Prelude.{ℕ, ◌+◌, ◌≤◌, max, ◌≡◌, true, false, cond, ◌||◌, ◌⊎◌, List, [], ◌∷◌, ◌++◌, eqb, length, take, get_or}
+use Rattle.std.specs.Prelude.{ℕ, ◌+◌, ◌≤◌, max, ◌≡◌, true, false, cond, ◌||◌, ◌⊎◌, List, [], ◌∷◌, ◌++◌, eqb, length, take, get_or, Some, None}
 use Rattle.line.specs.Packing.{pack_of}
 use Rattle.memory.specs.Bytes.{begun}
 use Rattle.carrying.specs.Held.{Frams}
 use Rattle.file_commands.specs.WriteFile.{judge_list_of, storage, store_list_of}
 use Rattle.ports.specs.declared.Side.{Side}
 use Rattle.ports.specs.Sides.{side_of, number_of_side, of_side}
-use Rattle.ports.specs.declared.Answered.TheVariants.{On, Nowhere}
 use Rattle.ports.specs.Ports.{answered_on, is_sending}
 use Rattle.replying.specs.Replies.{code_of, polls}
 use Rattle.commanding.specs.World.{World, message_of, reply_of}
@@ -76,16 +75,16 @@ pub record LeavesInC (u : WheelUnit) (c : FromC) : Type 0 where
       → reply_of side c.left ≡ begun (reply_of side c.lent) (take (cond (eqb (number_of_side side) c.back.port) c.back.sent 0) (reply_of side c.left))
   -- 1 to 4 and 10: the message is for an address that is heard on the byte's port.
   pub ours : is_commanded c.back.answer ≡ true
-      → answered_on u.strap (side_of c.port) (get_or (of_side (side_of c.port) (heard_messages (unit_in u) c.port c.byte c.lent)) 0 0) ≡ Nowhere → ⊥
+      → answered_on u.strap (side_of c.port) (get_or (of_side (side_of c.port) (heard_messages (unit_in u) c.port c.byte c.lent)) 0 0) ≡ None → ⊥
   -- 1 and 3: poll is set, and the reply is to be sent on the port that the address names, which was not sending. 2 and 4 with poll set: that port was
   -- sending. Where nothing is to be sent the port is 0.
   pub leaving : has_reply c.back.answer ≡ true
       → let message = of_side (side_of c.port) (heard_messages (unit_in u) c.port c.byte c.lent) in
-      (answered_on u.strap (side_of c.port) (get_or message 0 0) ≡ On (sent_from c)) × (polls (get_or message 2 0) ≡ true)
+      (answered_on u.strap (side_of c.port) (get_or message 0 0) ≡ Some (sent_from c)) × (polls (get_or message 2 0) ≡ true)
       × (is_sending (sent_from c) (sending_in c.sending0 c.sending1) ≡ false)
   pub losing : is_unsaid c.back.answer ≡ true
       → let message = of_side (side_of c.port) (heard_messages (unit_in u) c.port c.byte c.lent) in
-      polls (get_or message 2 0) ≡ true → (telemetry : Side) → answered_on u.strap (side_of c.port) (get_or message 0 0) ≡ On telemetry
+      polls (get_or message 2 0) ≡ true → (telemetry : Side) → answered_on u.strap (side_of c.port) (get_or message 0 0) ≡ Some telemetry
       → is_sending telemetry (sending_in c.sending0 c.sending1) ≡ true
   pub on_no_port : has_reply c.back.answer ≡ false → c.back.port ≡ 0
   pub strap : c.back.unit.strap ≡ u.strap

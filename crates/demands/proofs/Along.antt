@@ -7,6 +7,7 @@ use Prim.Native.Nat.{ℕ, ◌≤◌, ◌<◌}
 use native.Mathlib.Omega.{arith}
 use borrow.Author.Tests.{le-leb, eq-eqb, ne_eqb, eqb-true, eqb-false}
 use lib.ListN.{length, replicate}
+use Rattle.std.proofs.Common.{Ok, Err}
 use Rattle.line.specs.declared.receiver.Receiver.{Receiver}
 use Rattle.line.specs.declared.receiver.Heard.{Heard}
 use Rattle.line.specs.declared.receiver.Heard.TheVariants as heard
@@ -20,16 +21,13 @@ use Rattle.ports.specs.declared.Side.{Side}
 use Rattle.ports.specs.declared.Side.TheVariants.{Zero, One}
 use Rattle.ports.specs.declared.Port.{Port}
 use Rattle.ports.specs.declared.Port.TheVariants.{Hearing, Throwing}
-use Rattle.ports.specs.declared.Ports.{Ports}
-use Rattle.ports.specs.declared.Sending.{Sending}
-use Rattle.ports.specs.Sides.{side_of, number_of_side, Both, of_side, put}
-use Rattle.ports.specs.Ports.{port_of, with_port, count_of, AfterByte, hear_of, is_open}
-use Rattle.ports.proofs.Sides.{put_there, port_put}
+use Rattle.ports.specs.declared.Both.{Both}
+use Rattle.ports.specs.Sides.{side_of, number_of_side, of_side, put}
+use Rattle.ports.specs.Ports.{Ports, Sending, port_of, with_port, count_of, AfterByte, hear_of, is_open}
+use Rattle.ports.proofs.Sides.{put_there}
 use Rattle.ports.proofs.Bytes.{heard_low, heard_long}
 use Rattle.judging.specs.declared.Unit.{Unit}
-use Rattle.judging.specs.declared.fitting.Fit.{Fit}
-use Rattle.judging.specs.declared.fitting.Fit.TheVariants.{Fits, Unfit}
-use Rattle.judging.specs.Fitting.{fram_as_set_up, frams_as_set_up, record_fit, largest_count, lengths_fit, step_fit}
+use Rattle.judging.specs.Fitting.{Fit, fram_as_set_up, frams_as_set_up, record_fit, largest_count, lengths_fit, step_fit}
 use Rattle.judging.specs.Judging.{largest_message, verdict_of, with_ports, received_of, among_both, unless, judge_of}
 use Rattle.judging.proofs.Serving.{a_served_record_is_sound}
 use Rattle.commanding.specs.World.{World, message_of, lengths_of, Outcome, with_message}
@@ -62,7 +60,7 @@ the_same_is_met side u message (d ∷ calls) =
 pub suits_still : (side : Side) (u v : Unit) (size : ℕ) (c : Call) → Same u v → Suits side u size c → Suits side v size c
 suits_still side u v size c same suits =
     let l = lent_lengths side size c in (
-      ap₂ (λ (s : ℕ) (b : Bool). lengths_fit s b l Fits) same.0 (ap₂ (λ (b f : ℕ). fram_as_set_up l.bootloader b && fram_as_set_up l.fram f) same.2 same.3) ∙ suits.0,
+      ap₂ (λ (s : ℕ) (b : Bool). lengths_fit s b l (Ok tt)) same.0 (ap₂ (λ (b f : ℕ). fram_as_set_up l.bootloader b && fram_as_set_up l.fram f) same.2 same.3) ∙ suits.0,
       suits.1,
     )
 
@@ -76,11 +74,11 @@ pub lengths_lent : (side : Side) (message : List ℕ) (c : Call) → lengths_of 
 lengths_lent Zero message c = refl
 lengths_lent One message c = refl
 
-record_fits : (u : Unit) (number : ℕ) → Serves u → number ≤ 1 → record_fit u number ≡ Fits
+record_fits : (u : Unit) (number : ℕ) → Serves u → number ≤ 1 → record_fit u number ≡ Ok tt
 record_fits u number serves named =
     simp (le-leb (count_of u.ports.port0) largest_count serves.0, le-leb (count_of u.ports.port1) largest_count serves.1, le-leb number 1 named, serves.2)
 
-pub a_call_that_suits_fits : (side : Side) (u : Unit) (message : List ℕ) (c : Call) → Serves u → Suits side u (length message) c → step_fit u c.port (lengths_of (lent_to side message c)) ≡ Fits
+pub a_call_that_suits_fits : (side : Side) (u : Unit) (message : List ℕ) (c : Call) → Serves u → Suits side u (length message) c → step_fit u c.port (lengths_of (lent_to side message c)) ≡ Ok tt
 unfolding step_fit
 a_call_that_suits_fits side u message c serves suits =
     ap₂ (λ l f. lengths_fit u.strap (frams_as_set_up u l) l f) (lengths_lent side message c) (record_fits u c.port serves suits.1) ∙ suits.0
@@ -163,8 +161,8 @@ heard_ports_low u number byte w bound above low s = apart (step_fit u number (le
     one One One = heard_low (largest_message u.limit) bound above u.ports.port1 byte (message_of One w) (low One)
 
     apart : (f : Fit) → let side = side_of number in count_of (port_of s (unless f u w.buffers.messages (among_both side w.buffers.messages (received_of u side byte (message_of side w)))).unit.ports) ≤ bound
-    apart (Unfit answer) = low s
-    apart Fits = one s (side_of number)
+    apart (Err answer) = low s
+    apart (Ok _) = one s (side_of number)
 
 pub a_call_keeps_the_counts_low : (u : Unit) (number byte : ℕ) (sending : Sending) (w : World) (bound : ℕ) → largest_message u.limit < bound → ((s : Side) → count_of (port_of s u.ports) ≤ bound)
     → (s : Side) → count_of (port_of s (step_of u number byte sending w).unit.ports) ≤ bound
@@ -204,7 +202,7 @@ module _ (side : Side) (u : Unit) (message : List ℕ) (c : Call) where
 
   -- on this port, served
   module _ (serves : Serves u) (suits : Suits side u (length message) c) (here : c.port ≡ number_of_side side) where
-    fits : step_fit u c.port (lengths_of w) ≡ Fits
+    fits : step_fit u c.port (lengths_of w) ≡ Ok tt
     fits = a_call_that_suits_fits side u message c serves suits
 
     at : side_of c.port ≡ side
@@ -226,7 +224,7 @@ module _ (side : Side) (u : Unit) (message : List ℕ) (c : Call) where
     heard_here : port_of side heard_by_both ≡ got.port
     heard_here =
         ap (port_of side) (sym (heard_of_one u c.port c.byte w fits).0)
-        ∙ ap₂ (λ (s : Side) (g : AfterByte). port_of side (with_port s u.ports g.port)) at as_heard ∙ port_put side u.ports got.port
+        ∙ ap₂ (λ (s : Side) (g : AfterByte). port_of side (with_port s u.ports g.port)) at as_heard ∙ put_there side u.ports got.port
 
     pub port_as_heard : SendsNothingOn side o → port_of side o.unit.ports ≡ got.port
     port_as_heard none = ap (port_of side) leaves.ports ∙ undisturbed side (number_of o.answer) o.port heard_by_both none ∙ heard_here
@@ -253,8 +251,8 @@ module _ (side : Side) (u : Unit) (message : List ℕ) (c : Call) where
             → let at = side_of c.port in
             let j = unless f u w.buffers.messages (among_both at w.buffers.messages (received_of u at c.byte (message_of at w))) in
             (port_of side j.unit.ports ≡ port_of side u.ports) × (of_side side j.message ≡ message_of side w)
-        by (Unfit answer) e = (refl, refl)
-        by Fits e =
+        by (Err answer) e = (refl, refl)
+        by (Ok _) e =
             let apart = other_side_named side c.port (a_served_record_is_sound u c.port (lengths_of w) e).port there in
             (other_port side (side_of c.port) u.ports _ apart, other_message side (side_of c.port) w.buffers.messages _ apart)
 

@@ -15,11 +15,11 @@ use Rattle.answer.specs.declared.Answer.TheVariants.{Acked, Done, Nacked, Refuse
 use Rattle.answer.specs.Answers.{number_of}
 use Rattle.ports.specs.declared.Side.{Side}
 use Rattle.ports.specs.declared.Side.TheVariants.{Zero}
-use Rattle.ports.specs.declared.Ports.{Ports}
 use Rattle.ports.specs.declared.Fate.{Fate}
 use Rattle.ports.specs.declared.Fate.TheVariants.{Nothing, Lost, Leaves}
-use Rattle.ports.specs.Sides.{Both, of_side, put}
-use Rattle.ports.specs.Ports.{lost_count, settle_of}
+use Rattle.ports.specs.declared.Both.{Both}
+use Rattle.ports.specs.Sides.{of_side, put}
+use Rattle.ports.specs.Ports.{Ports, lost_count, settle_of}
 use Rattle.judging.specs.declared.Unit.{Unit}
 use Rattle.judging.specs.Judging.{with_ports}
 use Rattle.replying.specs.Replies.{polls, code_of, reply_message, Said, saying, said_of}

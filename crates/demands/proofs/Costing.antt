@@ -8,6 +8,7 @@ use native.Mathlib.Omega.{arith}
 use borrow.Author.Tests.{eq-eqb, ne_eqb}
 use lib.Dec.{eqb}
 use lib.ListN.{length, get_or}
+use Rattle.std.proofs.Common.{Ok, Err}
 use Rattle.field.specs.Fields.{word32_at, bytes16, bytes32}
 use Rattle.field.proofs.Words.{four_bytes}
 use Rattle.blocks.specs.Fram.{Kept, block_start, range_sum}
@@ -26,15 +27,12 @@ use Rattle.command.proofs.Codes.{in_either_mode}
 use Rattle.command.proofs.Costs.{what_a_command_costs_at_most}
 use Rattle.answer.specs.Answers.{number_of}
 use Rattle.ports.specs.declared.Side.{Side}
-use Rattle.ports.specs.declared.Sending.{Sending}
 use Rattle.ports.specs.Sides.{side_of}
-use Rattle.ports.specs.Ports.{is_sending}
+use Rattle.ports.specs.Ports.{Sending, is_sending}
 use Rattle.judging.specs.declared.Unit.{Unit}
 use Rattle.judging.specs.declared.Verdict.{Verdict}
 use Rattle.judging.specs.declared.Verdict.TheVariants.{Quiet, Dropped, Command}
-use Rattle.judging.specs.declared.fitting.Fit.{Fit}
-use Rattle.judging.specs.declared.fitting.Fit.TheVariants.{Fits, Unfit}
-use Rattle.judging.specs.Fitting.{set_up_fit, step_fit}
+use Rattle.judging.specs.Fitting.{Fit, set_up_fit, step_fit}
 use Rattle.judging.specs.Judging.{judge_of}
 use Rattle.judging.proofs.Serving.{passed_step, a_served_step_fits}
 use Rattle.replying.specs.Replies.{polls, code_of}
@@ -113,7 +111,7 @@ module _ (u : Unit) (number byte : ℕ) (sending : Sending) (w : World) where
   side = side_of number
 
   -- a call that is not refused is lent at most 1,024 blocks of each
-  blocks_lent : step_fit u number (lengths_of w) ≡ Fits → most ≤ 1532
+  blocks_lent : step_fit u number (lengths_of w) ≡ Ok tt → most ≤ 1532
   blocks_lent e =
       let few = as_set_up_no_longer u (lengths_of w) (passed_step u number (lengths_of w) e).fram_tested in
       let fitted = a_served_step_fits u number (lengths_of w) e in
@@ -176,8 +174,8 @@ unfolding set_up_of
 a_set_up_costs_nothing strap limit locked w = apart (set_up_fit strap limit (lengths_of w))
   where
     apart : (f : Fit) → (set_up_as f strap limit locked w).cost ≡ 0
-    apart Fits = refl
-    apart (Unfit answer) = refl
+    apart (Ok _) = refl
+    apart (Err answer) = refl
 
 -- ---- a CRC on the line
 

@@ -10,6 +10,7 @@ use native.Mathlib.Omega.{arith}
 use borrow.Author.Tests.{le-leb, lt-leb, ne_eqb}
 use lib.Dec.{eqb, leb}
 use lib.ListN.{length, take, get_or}
+use Rattle.std.proofs.Common.{Option, Some, None, Ok, Err}
 use Rattle.line.specs.Packing.{packed_of}
 use Rattle.memory.specs.Bytes.{begun}
 use Rattle.memory.specs.Counts.{counted_up}
@@ -24,18 +25,13 @@ use Rattle.answer.specs.declared.Answer.TheVariants.{Taken, Acked, Done, Nacked,
 use Rattle.answer.specs.Answers.{number_of, sent_of}
 use Rattle.ports.specs.declared.Side.{Side}
 use Rattle.ports.specs.declared.Side.TheVariants.{Zero, One}
-use Rattle.ports.specs.declared.Ports.{Ports}
-use Rattle.ports.specs.declared.Sending.{Sending}
-use Rattle.ports.specs.declared.Answered.{Answered}
-use Rattle.ports.specs.declared.Answered.TheVariants.{On, Nowhere}
 use Rattle.ports.specs.declared.Fate.TheVariants as fate
 use Rattle.ports.specs.declared.Port.TheVariants.{Throwing}
-use Rattle.ports.specs.Sides.{side_of, number_of_side, Both, of_side, put}
-use Rattle.ports.specs.Ports.{answered_on, port_of, with_port, count_of, hear_of, is_open, is_sending, first_count, thrown_count, lost_count, settlement, settle_of}
+use Rattle.ports.specs.declared.Both.{Both}
+use Rattle.ports.specs.Sides.{side_of, number_of_side, of_side, put}
+use Rattle.ports.specs.Ports.{Ports, Sending, answered_on, port_of, with_port, count_of, hear_of, is_open, is_sending, first_count, thrown_count, lost_count, settlement, settle_of}
 use Rattle.judging.specs.declared.Unit.{Unit}
-use Rattle.judging.specs.declared.fitting.Fit.{Fit}
-use Rattle.judging.specs.declared.fitting.Fit.TheVariants.{Fits, Unfit}
-use Rattle.judging.specs.Fitting.{set_up_fit, lengths_fit, step_fit}
+use Rattle.judging.specs.Fitting.{Fit, set_up_fit, lengths_fit, step_fit}
 use Rattle.judging.specs.Judging.{largest_message, with_ports, received_of, among_both, unless, judge_of}
 use Rattle.replying.specs.Replies.{polls, code_of}
 use Rattle.commanding.specs.World.{World, message_of, lengths_of, Outcome, outcome, costing, with_messages, with_diagnostics, held_of}
@@ -69,10 +65,10 @@ no_reply_written side port replies n none = nothing_sent (of_side side replies) 
 a_reply_written : (side port : Side) (replies : Both (List ℕ)) (bytes : List ℕ)
     → let after = put port replies (begun (of_side port replies) bytes) in
     of_side side after ≡ begun (of_side side replies) (take (cond (eqb (number_of_side side) (number_of_side port)) (length bytes) 0) (of_side side after))
-a_reply_written Zero Zero replies bytes = something_sent replies.at0 bytes
-a_reply_written Zero One replies bytes = nothing_sent replies.at0 0 refl
-a_reply_written One Zero replies bytes = nothing_sent replies.at1 0 refl
-a_reply_written One One replies bytes = something_sent replies.at1 bytes
+a_reply_written Zero Zero replies bytes = something_sent replies.port0 bytes
+a_reply_written Zero One replies bytes = nothing_sent replies.port0 0 refl
+a_reply_written One Zero replies bytes = nothing_sent replies.port1 0 refl
+a_reply_written One One replies bytes = something_sent replies.port1 bytes
 
 -- ---- the counts and the ports by the answer's number
 
@@ -101,7 +97,7 @@ module _ (strap : ℕ) (side : Side) (ports : Ports) (message : List ℕ) (numbe
       by false = simp (a, b)
 
   counts_of_a_loss : (telemetry : Side) → (leb 5 number && leb number 8) ≡ false → has_reply number ≡ false → is_unsaid number ≡ true → polls (get_or message 2 0) ≡ true
-      → answered_on strap side (get_or message 0 0) ≡ On telemetry
+      → answered_on strap side (get_or message 0 0) ≡ Some telemetry
       → counted_up diagnostics (lost_count telemetry) ≡ counts_after strap side ports message number port diagnostics
   counts_of_a_loss telemetry a b c polled is = sym (simp (a, b, c, polled, is))
 
@@ -127,16 +123,16 @@ module _ (strap : ℕ) (side : Side) (ports : Ports) (message : List ℕ) (numbe
   ports_of_none : has_reply number ≡ false → ports ≡ ports_after number port ports
   ports_of_none b = sym (simp b)
 
-is_heard : Answered → Bool
-is_heard (On telemetry) = true
-is_heard Nowhere = false
+is_heard : Option Side → Bool
+is_heard (Some telemetry) = true
+is_heard None = false
 
 -- a command is answered on one port
-port_told : Answered → Side → Side
-port_told (On telemetry) otherwise = telemetry
-port_told Nowhere otherwise = otherwise
+port_told : Option Side → Side → Side
+port_told (Some telemetry) otherwise = telemetry
+port_told None otherwise = otherwise
 
-one_port : (a b : Side) → On a ≡ On b → a ≡ b
+one_port : (a b : Side) → Some a ≡ Some b → a ≡ b
 unfolding port_told
 one_port a b e = ap (λ x. port_told x a) e
 
@@ -213,17 +209,17 @@ module _ (u : Unit) (number : ℕ) (sending : Sending) (w : World) (ports : Port
 
   -- a command answered, that marks what it marks
   module _ (telemetry : Side) (destination source control : ℕ) (field : List ℕ) (to : destination ≡ get_or message 0 0) (told : control ≡ get_or message 2 0)
-      (is : answered_on u.strap side destination ≡ On telemetry) (locking : Bool) where
+      (is : answered_on u.strap side destination ≡ Some telemetry) (locking : Bool) where
     abbrev busy : Bool
     busy = is_sending telemetry sending
 
     abbrev Leaving : Outcome → Type 0
     Leaving o = Leaves u number sending ports messages locking w o
 
-    heard_there : answered_on u.strap side (get_or message 0 0) ≡ On telemetry
+    heard_there : answered_on u.strap side (get_or message 0 0) ≡ Some telemetry
     heard_there = ap (answered_on u.strap side) (sym to) ∙ is
 
-    not_nowhere : answered_on u.strap side (get_or message 0 0) ≡ Nowhere → ⊥
+    not_nowhere : answered_on u.strap side (get_or message 0 0) ≡ None → ⊥
     unfolding is_heard
     not_nowhere none = false≢true (ap is_heard (sym none ∙ heard_there))
 
@@ -374,7 +370,7 @@ high_sends BadPort high = refl
 high_sends BadLimit high = refl
 
 -- what is heard of a call that is refused, and of one that is not
-heard_of_none : (u : Unit) (number byte : ℕ) (w : World) (answer : Answer) → step_fit u number (lengths_of w) ≡ Unfit answer
+heard_of_none : (u : Unit) (number byte : ℕ) (w : World) (answer : Answer) → step_fit u number (lengths_of w) ≡ Err answer
     → (u.ports ≡ heard_ports u number byte w) × (w.buffers.messages ≡ heard_messages u number byte w)
 unfolding judge_of
 heard_of_none u number byte w answer e =
@@ -384,7 +380,7 @@ heard_of_none u number byte w answer e =
       sym (ap (λ f. (unless f u w.buffers.messages served).message) e),
     )
 
-pub heard_of_one : (u : Unit) (number byte : ℕ) (w : World) → step_fit u number (lengths_of w) ≡ Fits
+pub heard_of_one : (u : Unit) (number byte : ℕ) (w : World) → step_fit u number (lengths_of w) ≡ Ok tt
     → ((unit_heard u number byte w).ports ≡ heard_ports u number byte w) × ((world_heard u number byte w).buffers.messages ≡ heard_messages u number byte w)
 unfolding judge_of received_of
 heard_of_one u number byte w e =
@@ -410,7 +406,7 @@ what_every_answer_leaves u number byte sending w =
       counts = counts_of_none u.strap (side_of number) (heard_ports u number byte w) (of_side (side_of number) (heard_messages u number byte w)) (number_of answer) Zero w.diagnostics no_drop no_reply
           (no_silence_from_5 (number_of answer) (omega arith));
       lock = or_not u.locked;
-      ports = same.0 ∙ ports_of_none u.strap (side_of number) (heard_ports u number byte w) w.buffers.messages.at0 (number_of answer) Zero w.diagnostics no_reply;
+      ports = same.0 ∙ ports_of_none u.strap (side_of number) (heard_ports u number byte w) w.buffers.messages.port0 (number_of answer) Zero w.diagnostics no_reply;
       stored = same.1;
       reply = λ s. no_reply_written s Zero w.buffers.replies (sent_of answer) (high_sends answer high);
       ours = λ one. absurd (false≢true (sym (no_command_from_5 (number_of answer) (omega arith) (λ ten. omega arith)) ∙ one));
@@ -430,7 +426,7 @@ what_every_answer_leaves u number byte sending w =
 
 -- What a call that is not refused leaves of the ports and of the message buffers before any reply: its port and its buffer are as the receiver's rule says (a
 -- run that is thrown away stores nothing, nor does closing a run), and the other port and its buffer are as they were.
-pub what_a_served_byte_leaves_of_both_ports : (u : Unit) (number byte : ℕ) (sending : Sending) (w : World) → step_fit u number (lengths_of w) ≡ Fits
+pub what_a_served_byte_leaves_of_both_ports : (u : Unit) (number byte : ℕ) (sending : Sending) (w : World) → step_fit u number (lengths_of w) ≡ Ok tt
     → let side = side_of number in
     let got = hear_of (largest_message u.limit) (port_of side u.ports) byte (message_of side w) in
     (heard_ports u number byte w ≡ with_port side u.ports got.port) × ((step_of u number byte sending w).world.buffers.messages ≡ put side w.buffers.messages got.message)
@@ -448,8 +444,8 @@ what_set_up_leaves strap limit locked w = apart (set_up_fit strap limit (lengths
     high number (inr is) = let is_29 = is.0 in omega arith
 
     apart : (f : Fit) → set_up_fit strap limit (lengths_of w) ≡ f → SetUpLeaves strap limit locked w (set_up_as f strap limit locked w)
-    apart Fits e = record { when_set_up = λ _. (refl, refl); refused = λ other. absurd (other refl); sends_nothing = (refl, refl) }
-    apart (Unfit answer) e =
+    apart (Ok _) e = record { when_set_up = λ _. (refl, refl); refused = λ other. absurd (other refl); sends_nothing = (refl, refl) }
+    apart (Err answer) e =
         let number = a_refused_set_up_has_its_number strap limit (lengths_of w) answer e in
         record {
           when_set_up = λ none. absurd (a_refused_set_up_is_no_0 limit (number_of answer) number none);
@@ -458,7 +454,7 @@ what_set_up_leaves strap limit locked w = apart (set_up_fit strap limit (lengths
         }
 
 -- A refused set-up hands back a record with which every later call is refused.
-pub a_refused_set_up_is_never_served : (strap limit : ℕ) (locked : Bool) (w : World) (answer : Answer) → set_up_fit strap limit (lengths_of w) ≡ Unfit answer
+pub a_refused_set_up_is_never_served : (strap limit : ℕ) (locked : Bool) (w : World) (answer : Answer) → set_up_fit strap limit (lengths_of w) ≡ Err answer
     → (number byte : ℕ) (sending : Sending) (v : World) → step_of (set_up_of strap limit locked w).unit number byte sending v ≡ outcome nobody BadStrap v
 unfolding set_up_of step_of step_fit lengths_fit judge_of served_of
 a_refused_set_up_is_never_served strap limit locked w answer e number byte sending v = ap (λ f. step_of (set_up_as f strap limit locked w).unit number byte sending v) e

@@ -8,6 +8,7 @@ use native.Mathlib.Omega.{arith}
 use borrow.Author.Tests.{le-leb, eq-eqb, eqb-true, le-ltb}
 use lib.Dec.{leb, ltb, eqb}
 use lib.ListN.{length, drop, length-drop}
+use Rattle.std.proofs.Common.{Ok}
 use Rattle.crc.specs.Sum.{sum_of}
 use Rattle.line.specs.Framing.{fend}
 use Rattle.line.specs.Packing.{body_of, packed_of, message_size, reply_size}
@@ -17,8 +18,7 @@ use Rattle.memory.specs.Bytes.{stretch}
 use Rattle.memory.specs.Counts.{channels}
 use Rattle.memory.specs.Status.{status_written}
 use Rattle.memory.specs.Edac.{edac_size}
-use Rattle.blocks.specs.declared.Found.{Found}
-use Rattle.blocks.specs.declared.Found.TheVariants.{At, Outside}
+use Rattle.std.proofs.Common.{Option, Some, None}
 use Rattle.blocks.specs.Fram.{Kept, kept, block_start, fresh_sums, store_of, range_sum, place_of}
 use Rattle.blocks.proofs.Refreshing.{fresh_length, right_sums_stay_right, a_store_keeps_the_memory's_length}
 use Rattle.blocks.proofs.Ranges.{a_range_under_right_sums_is_fresh}
@@ -43,10 +43,8 @@ use Rattle.command.specs.Command.{command_of}
 use Rattle.command.proofs.Codes.{of_any_command, in_either_mode}
 use Rattle.ports.specs.declared.Side.{Side}
 use Rattle.ports.specs.declared.Side.TheVariants.{Zero, One}
-use Rattle.ports.specs.declared.Sending.{Sending}
-use Rattle.ports.specs.Ports.{both_fresh, port_of, count_of, is_sending}
+use Rattle.ports.specs.Ports.{Sending, both_fresh, port_of, count_of, is_sending}
 use Rattle.judging.specs.declared.Unit.{Unit}
-use Rattle.judging.specs.declared.fitting.Fit.TheVariants.{Fits}
 use Rattle.judging.specs.Fitting.{fram_fits, fram_as_set_up, frams_as_set_up, limit_fit, lengths_fit, set_up_fit}
 use Rattle.judging.specs.Judging.{largest_message}
 use Rattle.judging.proofs.Serving.{both_hold, Passed, all_passed, a_served_set_up_fits, a_served_set_up_is_limited}
@@ -99,10 +97,10 @@ poke_keeps size room first locked memory field good =
     (λ _. either_way (Keeps (Good size)) (over_border (word32_at field 0) (length field - 4)) _ _ (λ _. omega arith)
     (λ _. placed (place_of first (length memory.fram) (word32_at field 0) (length field - 4)) refl short)))
   where
-    placed : (f : Found) → place_of first (length memory.fram) (word32_at field 0) (length field - 4) ≡ f → ltb (length field) 5 ≡ false
+    placed : (f : Option ℕ) → place_of first (length memory.fram) (word32_at field 0) (length field - 4) ≡ f → ltb (length field) 5 ≡ false
         → Keeps (Good size) (at_place f (λ at. done field (cond locked memory (store_of memory at (drop 4 field)))))
-    placed Outside e short = omega arith
-    placed (At at) e short =
+    placed None e short = omega arith
+    placed (Some at) e short =
         either_way (Good size) locked memory (store_of memory at (drop 4 field)) (λ _. good)
         (λ _. a_store_keeps_right size memory at (drop 4 field) good
         (rw length-drop (a_place_lies_inside first (length memory.fram) (word32_at field 0) (length field - 4) at e)))
@@ -233,7 +231,7 @@ module _ (strap limit bootloader's user's : ℕ) where
       calls_keep calls (own (step_of s.unit c.port c.byte c.sending c.lent).unit s.frams) (goes_on s c.port c.byte c.sending c.lent s.frams g g.good)
 
 -- set-up makes all sums right
-set_up_goes : (strap limit : ℕ) (locked : Bool) (w : World) → set_up_fit strap limit (lengths_of w) ≡ Fits
+set_up_goes : (strap limit : ℕ) (locked : Bool) (w : World) → set_up_fit strap limit (lengths_of w) ≡ Ok tt
     → Goes strap limit (length w.frams.bootloader.fram) (length w.frams.user.fram) (own_of (set_up_of strap limit locked w))
 set_up_goes strap limit locked w e =
     subst (λ o. Goes strap limit (length w.frams.bootloader.fram) (length w.frams.user.fram) (own_of o))
@@ -247,7 +245,7 @@ set_up_goes strap limit locked w e =
 -- Demand 3, on the sums. Take a unit that was set up, and let nothing but the unit change its FRAMs, sums or record. After any calls on either port,
 -- whatever bytes and whatever else they lend, of any length, refused or not, each block's kept sum is the CRC of that block as it now
 -- stands, in bootloader FRAM and in user FRAM.
-pub after_any_calls_the_sums_are_right : (strap limit : ℕ) (locked : Bool) (w : World) → set_up_fit strap limit (lengths_of w) ≡ Fits → (calls : List Lending)
+pub after_any_calls_the_sums_are_right : (strap limit : ℕ) (locked : Bool) (w : World) → set_up_fit strap limit (lengths_of w) ≡ Ok tt → (calls : List Lending)
     → (which : Which) → Right (fram_of which (called_of (own_of (set_up_of strap limit locked w)) calls).frams)
 after_any_calls_the_sums_are_right strap limit locked w e calls which = by which
   where
@@ -270,7 +268,7 @@ reads_back_second : (m n : ℕ) → n < 4294967296 → word32_at (bytes32 m ++ b
 reads_back_second m n h = four_bytes n h
 
 -- the place of such a range
-placed : (start size first last : ℕ) → start ≤ first → first ≤ last → last < start + size → place_of start size first (range_size first last) ≡ At (first - start)
+placed : (start size first last : ℕ) → start ≤ first → first ≤ last → last < start + size → place_of start size first (range_size first last) ≡ Some (first - start)
 unfolding place_of
 placed start size first last starts forward ends =
     simp (le-leb start first starts, le-leb (first + range_size first last) (start + size) (omega arith))
@@ -300,7 +298,7 @@ module _ (which : Which) (now : Frams) (small : length (fram_of which now).fram 
       let most = ends_by which in
       let one : word32_at asking 0 ≡ first = reads_back first (bytes32 last) (omega arith) in
       let two : word32_at asking 4 ≡ last = reads_back_second first last (omega arith) in
-      let there : place_of start (length memory.fram) (word32_at asking 0) (range_size (word32_at asking 0) (word32_at asking 4)) ≡ At (first - start)
+      let there : place_of start (length memory.fram) (word32_at asking 0) (range_size (word32_at asking 0) (word32_at asking 4)) ≡ Some (first - start)
       = ap₂ (λ f l. place_of start (length memory.fram) f (range_size f l)) one two ∙ placed start (length memory.fram) first last starts forward ends in
       let named = a_range_inside_names_its_fram which asking (range_size (word32_at asking 0) (word32_at asking 4)) (length memory.fram) (omega arith) (omega arith) (omega arith) small in
       a_crc_where_it_is_named asking which named.0 now
@@ -330,7 +328,7 @@ module _ (which : Which) (now : Frams) (small : length (fram_of which now).fram 
 
 -- ---- after any calls on a unit that was set up
 
-module _ (strap limit : ℕ) (locked : Bool) (w : World) (e : set_up_fit strap limit (lengths_of w) ≡ Fits) (calls : List Lending) where
+module _ (strap limit : ℕ) (locked : Bool) (w : World) (e : set_up_fit strap limit (lengths_of w) ≡ Ok tt) (calls : List Lending) where
   abbrev now : Own
   now = called_of (own_of (set_up_of strap limit locked w)) calls
 
@@ -405,7 +403,7 @@ module _ (strap limit : ℕ) (locked : Bool) (w : World) (e : set_up_fit strap l
           lent_again (length w.frams.user.fram) now.unit.fram_len now.frams.user c.lent.frams.user goes.good.1 (ap (λ (f : Frams). f.user) same) goes.same_user fits.1
 
       by : (s : Side) → ((x : Side) → message_size ≤ length (message_of x (lent_to s message c)))
-          → lengths_fit now.unit.strap (frams_as_set_up now.unit (lent_lengths s (length message) c)) (lent_lengths s (length message) c) Fits ≡ Fits
+          → lengths_fit now.unit.strap (frams_as_set_up now.unit (lent_lengths s (length message) c)) (lent_lengths s (length message) c) (Ok tt) ≡ Ok tt
       by Zero l =
           simp (
             goes.same_strap,

@@ -9,6 +9,7 @@ use borrow.Author.Tests.{le-ltb, eq-eqb, eqb-true, eqb-false}
 use lib.Dec.{ltb, eqb}
 use lib.ListN.{length, take, drop, get_or, replicate, length-append}
 use lib.Seq.{take-append_seam, get_or-append-add, get_or-append_seam, length-take-le}
+use Rattle.std.proofs.Common.{Option, Some, None}
 use Rattle.crc.specs.Sum.{start, byte_step, sum_from, sum_of}
 use Rattle.crc.proofs.Halving.{byte_step_below}
 use Rattle.line.specs.Framing.{fend}
@@ -40,11 +41,9 @@ use Rattle.ports.specs.declared.Side.{Side}
 use Rattle.ports.specs.declared.Side.TheVariants.{Zero, One}
 use Rattle.ports.specs.declared.Port.{Port}
 use Rattle.ports.specs.declared.Port.TheVariants.{Hearing, Throwing}
-use Rattle.ports.specs.declared.Sending.{Sending}
-use Rattle.ports.specs.declared.Answered.{Answered}
-use Rattle.ports.specs.declared.Answered.TheVariants.{On, Nowhere}
-use Rattle.ports.specs.Sides.{number_of_side, Both, both, of_side, put}
-use Rattle.ports.specs.Ports.{answered_on, port_of, with_port, hear_of, AfterByte, closes_some, is_open, is_sending, lost_count}
+use Rattle.ports.specs.declared.Both.{Both}
+use Rattle.ports.specs.Sides.{number_of_side, both, of_side, put}
+use Rattle.ports.specs.Ports.{Sending, answered_on, port_of, with_port, hear_of, AfterByte, closes_some, is_open, is_sending, lost_count}
 use Rattle.ports.proofs.Sides.{put_there}
 use Rattle.judging.specs.declared.Unit.{Unit}
 use Rattle.judging.specs.Judging.{largest_message, dropped, sound_of, command_on, run_of, verdict_of, with_ports}
@@ -275,11 +274,11 @@ module _ (u : Unit) (side : Side) (w : World) (destination source control : ℕ)
   abbrev laid : List ℕ
   laid = sealed head ++ drop (length (sealed head)) (message_of side w)
 
-  either_one : (sending : Sending) (a : Answered) → served_of u (command_on a (length (sealed head))) sending laid lying ≡ answered_by a u sending destination source control field lying
+  either_one : (sending : Sending) (a : Option Side) → served_of u (command_on a (length (sealed head))) sending laid lying ≡ answered_by a u sending destination source control field lying
   unfolding served_of commanded_of sealed
-  either_one sending (On telemetry) =
+  either_one sending (Some telemetry) =
       ap (λ (f : List ℕ). ordered_of u telemetry (is_sending telemetry sending) destination source control f lying) (field_size (drop (length (sealed head)) (message_of side w)))
-  either_one sending Nowhere = refl
+  either_one sending None = refl
 
   judged : (sending : Sending) → comes_to u side (heard.Message (length (sealed head))) sending lying ≡ addressed_of u side sending destination source control field lying
   unfolding verdict_of run_of sealed
@@ -570,7 +569,7 @@ module _ (u : Unit) (number byte : ℕ) (sending : Sending) (w : World) where
             (few, λ side. let enough = room side in omega arith);
       })
     where
-      long_replies : ((side : Side) → 2068 ≤ of_side side (both (length w.buffers.replies.at0) (length w.buffers.replies.at1))) → (side : Side) → 2068 ≤ length (reply_of side w)
+      long_replies : ((side : Side) → 2068 ≤ of_side side (both (length w.buffers.replies.port0) (length w.buffers.replies.port1))) → (side : Side) → 2068 ≤ length (reply_of side w)
       long_replies fits Zero = fits Zero
       long_replies fits One = fits One
 

@@ -17,7 +17,7 @@ use Rattle.read_only.specs.ReadOnly.{written, Writes}
 use Rattle.read_only.proofs.Keeping.{a_write_address_by_address}
 use Rattle.field.specs.Reading.{is_whole}
 use Rattle.blocks.specs.Fram.{Kept, place_of, store_of}
-use Rattle.blocks.specs.declared.Found.TheVariants.{At}
+use Rattle.std.proofs.Common.{Some}
 use Rattle.carrying.specs.declared.Mode.TheVariants.{Application}
 use Rattle.carrying.specs.Ending.{done}
 use Rattle.carrying.specs.Held.{Frams, Which, of_bootloader, of_user, fram_of, with_fram, standing, Held, held, inside, on_edac, on_frams}
@@ -92,7 +92,7 @@ module _ (way : Way) (source control address : ℕ) (bytes : List ℕ) (c : Call
       let small : address < 4294967296 = omega arith in
       let size : length poking - 4 ≡ length bytes = omega arith in
       let there : word32_at poking 0 ≡ address = four_bytes address small in
-      let found : place_of (first_of which) (length memory.fram) (word32_at poking 0) (length poking - 4) ≡ At (address - first_of which)
+      let found : place_of (first_of which) (length memory.fram) (word32_at poking 0) (length poking - 4) ≡ Some (address - first_of which)
       = ap₂ (λ (a n : ℕ). place_of (first_of which) (length memory.fram) a n) there size
       ∙ simp (le-leb (first_of which) address starts, le-leb (address + length bytes) (first_of which + length memory.fram) ends) in
       let named = a_range_inside_names_its_fram which poking (length poking - 4) (length memory.fram) (omega arith) (omega arith) (omega arith) few in

@@ -6,6 +6,7 @@ use Prim.Native.Nat.{ℕ, ◌-◌}
 use native.Mathlib.Omega.{arith}
 use lib.Dec.{eqb, ltb}
 use lib.ListN.{length, drop}
+use Rattle.std.proofs.Common.{Ok, Err}
 use Rattle.field.specs.Fields.{word16_at}
 use Rattle.memory.specs.Edac.{edac_size, inside_edac}
 use Rattle.read_only.specs.ReadOnly.{KeepsReadOnly}
@@ -26,12 +27,9 @@ use Rattle.command.specs.Diagnostic.{diagnostic_of}
 use Rattle.command.specs.Command.{command_of}
 use Rattle.command.proofs.Codes.{of_any_command}
 use Rattle.judging.specs.declared.Unit.{Unit}
-use Rattle.judging.specs.declared.fitting.Fit.{Fit}
-use Rattle.judging.specs.declared.fitting.Fit.TheVariants.{Fits, Unfit}
-use Rattle.judging.specs.Fitting.{set_up_fit}
+use Rattle.judging.specs.Fitting.{Fit, set_up_fit}
 use Rattle.ports.specs.declared.Side.{Side}
-use Rattle.ports.specs.declared.Sending.{Sending}
-use Rattle.ports.specs.Ports.{is_sending}
+use Rattle.ports.specs.Ports.{Sending, is_sending}
 use Rattle.replying.specs.Replies.{code_of}
 use Rattle.commanding.specs.World.{World, lengths_of, Outcome, with_edac, held_of}
 use Rattle.commanding.specs.Commanded.{answered}
@@ -140,8 +138,8 @@ unfolding set_up_of
 a_set_up_keeps_edac strap limit locked w = apart (set_up_fit strap limit (lengths_of w))
   where
     apart : (f : Fit) → (set_up_as f strap limit locked w).world.edac ≡ w.edac
-    apart Fits = refl
-    apart (Unfit answer) = refl
+    apart (Ok _) = refl
+    apart (Err answer) = refl
 
 -- ---- any calls
 

@@ -9,6 +9,7 @@ use native.Mathlib.Omega.{arith}
 use borrow.Author.Tests.{le-leb, lt-leb, ne_eqb}
 use lib.Dec.{eqb}
 use lib.ListN.{length, drop}
+use Rattle.std.proofs.Common.{Ok, Err}
 use Rattle.line.specs.Framing.{fend}
 use Rattle.line.specs.declared.receiver.Receiver.{Receiver}
 use Rattle.line.specs.declared.receiver.Place.TheVariants.{Fresh, Run, Escape, Fault}
@@ -24,14 +25,11 @@ use Rattle.ports.specs.declared.Side.{Side}
 use Rattle.ports.specs.declared.Side.TheVariants.{Zero, One}
 use Rattle.ports.specs.declared.Port.{Port}
 use Rattle.ports.specs.declared.Port.TheVariants.{Hearing, Throwing}
-use Rattle.ports.specs.declared.Sending.{Sending}
 use Rattle.ports.specs.Sides.{side_of, number_of_side, of_side}
-use Rattle.ports.specs.Ports.{port_of, with_port, count_of, AfterByte, hear_of}
+use Rattle.ports.specs.Ports.{Sending, port_of, with_port, count_of, AfterByte, hear_of}
 use Rattle.judging.specs.declared.Unit.{Unit}
 use Rattle.carrying.specs.Ending.{longest_data, is_limit}
-use Rattle.judging.specs.declared.fitting.Fit.{Fit}
-use Rattle.judging.specs.declared.fitting.Fit.TheVariants.{Fits, Unfit}
-use Rattle.judging.specs.Fitting.{fram_fits, frams_as_set_up, largest_count, limit_fit, record_fit, lengths_fit, set_up_fit, step_fit}
+use Rattle.judging.specs.Fitting.{Fit, fram_fits, frams_as_set_up, largest_count, limit_fit, record_fit, lengths_fit, set_up_fit, step_fit}
 use Rattle.judging.specs.Judging.{largest_message, dropped, verdict_of, with_ports, received_of, among_both, unless, judge_of}
 use Rattle.judging.proofs.Serving.{a_served_record_is_sound, and_then}
 use Rattle.judging.proofs.Ways.{an_oversize}
@@ -67,20 +65,20 @@ no_byte_is_stored_past_the_limit u number byte sending w side =
         → let at = side_of number in
         drop (largest_message u.limit) (of_side side (unless f u w.buffers.messages (among_both at w.buffers.messages (received_of u at byte (message_of at w)))).message)
         ≡ drop (largest_message u.limit) (message_of side w)
-    apart (Unfit answer) = refl
-    apart Fits = one side (side_of number)
+    apart (Err answer) = refl
+    apart (Ok _) = one side (side_of number)
 
 -- ---- 27 and 29
 
 -- a call that is refused for its record
 refused_so : (side : Side) (u : Unit) (message : List ℕ) (c : Call) (answer : Answer)
-    → lengths_fit u.strap (frams_as_set_up u (lent_lengths side (length message) c)) (lent_lengths side (length message) c) Fits ≡ Fits → record_fit u c.port ≡ Unfit answer
+    → lengths_fit u.strap (frams_as_set_up u (lent_lengths side (length message) c)) (lent_lengths side (length message) c) (Ok tt) ≡ Ok tt → record_fit u c.port ≡ Err answer
     → call_on side u message c ≡ outcome u answer (lent_to side message c)
 unfolding step_of judge_of step_fit served_of
 refused_so side u message c answer suits next =
     let w = lent_to side message c in
-    let fits : lengths_fit u.strap (frams_as_set_up u (lengths_of w)) (lengths_of w) Fits ≡ Fits = ap (λ l. lengths_fit u.strap (frams_as_set_up u l) l Fits) (lengths_lent side message c) ∙ suits in
-    let refuses : step_fit u c.port (lengths_of w) ≡ Unfit answer
+    let fits : lengths_fit u.strap (frams_as_set_up u (lengths_of w)) (lengths_of w) (Ok tt) ≡ Ok tt = ap (λ l. lengths_fit u.strap (frams_as_set_up u l) l (Ok tt)) (lengths_lent side message c) ∙ suits in
+    let refuses : step_fit u c.port (lengths_of w) ≡ Err answer
     = sym (and_then u.strap (frams_as_set_up u (lengths_of w)) (lengths_of w) (record_fit u c.port) fits) ∙ next in
     let at = side_of c.port in
     ap (λ f. let j = unless f u w.buffers.messages (among_both at w.buffers.messages (received_of u at c.byte (message_of at w))) in
@@ -96,7 +94,7 @@ on_no_port_no_byte_is_served u number byte sending w none =
 
 -- where nothing of 20 to 26 is due the answer is 27, whatever the limit.
 pub on_no_port_a_byte_is_27 : (side : Side) (u : Unit) (message : List ℕ) (c : Call) → count_of u.ports.port0 ≤ largest_count → count_of u.ports.port1 ≤ largest_count
-    → lengths_fit u.strap (frams_as_set_up u (lent_lengths side (length message) c)) (lent_lengths side (length message) c) Fits ≡ Fits → 1 < c.port
+    → lengths_fit u.strap (frams_as_set_up u (lent_lengths side (length message) c)) (lent_lengths side (length message) c) (Ok tt) ≡ Ok tt → 1 < c.port
     → call_on side u message c ≡ outcome u BadPort (lent_to side message c)
 on_no_port_a_byte_is_27 side u message c zero one suits none =
     refused_so side u message c BadPort suits
@@ -118,12 +116,12 @@ with_no_limit_a_byte_is_29 side u message c zero one suits none =
     (simp (le-leb (count_of u.ports.port0) largest_count zero, le-leb (count_of u.ports.port1) largest_count one, le-leb c.port 1 suits.1, none))
 
 -- and so it is of a set-up of which, at another limit, nothing is refused.
-pub with_no_limit_a_set_up_is_29 : (strap limit : ℕ) (locked : Bool) (w : World) → set_up_fit strap longest_data (lengths_of w) ≡ Fits → is_limit limit ≡ false
+pub with_no_limit_a_set_up_is_29 : (strap limit : ℕ) (locked : Bool) (w : World) → set_up_fit strap longest_data (lengths_of w) ≡ Ok tt → is_limit limit ≡ false
     → set_up_of strap limit locked w ≡ outcome nobody BadLimit w
 unfolding set_up_of set_up_fit
 with_no_limit_a_set_up_is_29 strap limit locked w fits none =
-    let next : limit_fit limit ≡ Unfit BadLimit = simp none in
-    let refuses : set_up_fit strap limit (lengths_of w) ≡ Unfit BadLimit
+    let next : limit_fit limit ≡ Err BadLimit = simp none in
+    let refuses : set_up_fit strap limit (lengths_of w) ≡ Err BadLimit
     = sym (and_then strap (fram_fits (length w.frams.bootloader.fram) && fram_fits (length w.frams.user.fram)) (lengths_of w) (limit_fit limit) fits) ∙ next in
     simp refuses
 

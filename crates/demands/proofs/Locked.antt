@@ -7,6 +7,7 @@ use native.Mathlib.Omega.{arith}
 use lib.Dec.{leb}
 use lib.ListN.{length, get_or, length-set}
 use lib.Seq.{get_or-set_same, get_or-set_other}
+use Rattle.std.proofs.Common.{Option, Some, None, Ok}
 use Rattle.field.specs.Fields.{bytes32}
 use Rattle.memory.specs.Counts.{counted_up}
 use Rattle.memory.specs.Status.{fram_status, status_byte, status_written}
@@ -28,15 +29,10 @@ use Rattle.command.proofs.Ways.{init_locks, init_refuses}
 use Rattle.answer.specs.Answers.{number_of}
 use Rattle.ports.specs.declared.Side.{Side}
 use Rattle.ports.specs.declared.Side.TheVariants.{Zero, One}
-use Rattle.ports.specs.declared.Ports.{Ports}
-use Rattle.ports.specs.declared.Sending.{Sending}
-use Rattle.ports.specs.declared.Answered.{Answered}
-use Rattle.ports.specs.declared.Answered.TheVariants.{On, Nowhere}
 use Rattle.ports.specs.Sides.{side_of, of_side}
-use Rattle.ports.specs.Ports.{answered_on, port_of, is_open, is_sending, first_count, thrown_count, lost_count, settle_of}
+use Rattle.ports.specs.Ports.{Ports, Sending, answered_on, port_of, is_open, is_sending, first_count, thrown_count, lost_count, settle_of}
 use Rattle.judging.specs.declared.Unit.{Unit}
 use Rattle.replying.specs.Ports.{fate_of_reply, fate_of}
-use Rattle.judging.specs.declared.fitting.Fit.TheVariants.{Fits}
 use Rattle.judging.specs.Fitting.{set_up_fit}
 use Rattle.judging.proofs.Serving.{a_served_set_up_fits}
 use Rattle.replying.specs.Replies.{code_of, polls}
@@ -103,7 +99,7 @@ once_locked_no_bytes_change_bootloader_fram (another c ∷ calls) s locked =
     once_locked_no_bytes_change_bootloader_fram calls (own (step_of s.unit c.port c.byte c.sending c.lent).unit s.frams) (locked_stays s.unit c.port c.byte c.sending c.lent locked)
 
 -- And so from its set-up on, of a unit that was set up locked.
-pub set_up_locked_it_stays_locked : (strap limit : ℕ) (w : World) → set_up_fit strap limit (lengths_of w) ≡ Fits → (calls : List Lending)
+pub set_up_locked_it_stays_locked : (strap limit : ℕ) (w : World) → set_up_fit strap limit (lengths_of w) ≡ Ok tt → (calls : List Lending)
     → let now = called_of (own_of (set_up_of strap limit true w)) calls in
     (now.unit.locked ≡ true) × (now.frams.bootloader ≡ (set_up_of strap limit true w).world.frams.bootloader)
 unfolding set_up_of
@@ -184,9 +180,9 @@ module _ (strap : ℕ) (side : Side) (ports : Ports) (message : List ℕ) (numbe
       (λ _. either_way Still (has_reply number && is_open (port_of port ports)) _ _ (λ _. apart_from_it diagnostics (thrown_count port) (above_it port).1)
       (λ _. either_way Still (is_unsaid number && polls (get_or message 2 0)) _ _ (λ _. lost (answered_on strap side (get_or message 0 0))) (λ _. (refl, refl))))
     where
-      lost : (a : Answered) → Still (one_more_lost a diagnostics)
-      lost (On telemetry) = apart_from_it diagnostics (lost_count telemetry) (above_it telemetry).2
-      lost Nowhere = (refl, refl)
+      lost : (a : Option Side) → Still (one_more_lost a diagnostics)
+      lost (Some telemetry) = apart_from_it diagnostics (lost_count telemetry) (above_it telemetry).2
+      lost None = (refl, refl)
 
 -- what a byte leaves in the diagnostics is what an order to lock shows, but for the counts
 module _ (u : Unit) (number byte : ℕ) (sending : Sending) (w : World) where
@@ -213,7 +209,7 @@ module _ (u : Unit) (number byte : ℕ) (sending : Sending) (w : World) where
       by false = refl
 
 -- A set-up that is served writes what it was told, and moves no other diagnostic.
-pub what_set_up_writes_of_the_fram_status : (strap limit : ℕ) (locked : Bool) (w : World) → set_up_fit strap limit (lengths_of w) ≡ Fits
+pub what_set_up_writes_of_the_fram_status : (strap limit : ℕ) (locked : Bool) (w : World) → set_up_fit strap limit (lengths_of w) ≡ Ok tt
     → let now = (set_up_of strap limit locked w).world.diagnostics in
     (get_or now fram_status 0 ≡ get_or w.diagnostics fram_status 0 / 256 * 256 + cond locked 0xCC 0x40)
     × ((channel : ℕ) → (channel ≡ fram_status → ⊥) → get_or now channel 0 ≡ get_or w.diagnostics channel 0)
@@ -261,7 +257,7 @@ bytes_tell before (a ∷ arrivals) u w told =
 
 -- From a set-up that is served on, where nothing but the unit changes its record and what it is lent, after any bytes on either port the low byte of diagnostic 0x06 is
 -- 0xCC where the record is locked and 0x40 where it is not, and its other three bytes are what they were before set-up.
-pub what_the_fram_status_shows_is_true : (strap limit : ℕ) (locked : Bool) (w : World) → set_up_fit strap limit (lengths_of w) ≡ Fits → (arrivals : List Arrival)
+pub what_the_fram_status_shows_is_true : (strap limit : ℕ) (locked : Bool) (w : World) → set_up_fit strap limit (lengths_of w) ≡ Ok tt → (arrivals : List Arrival)
     → let o = set_up_of strap limit locked w in
     let end = fed_all o.unit o.world arrivals in
     (get_or end.world.diagnostics fram_status 0 % 256 ≡ cond end.unit.locked 0xCC 0x40)

@@ -7,6 +7,7 @@ use native.Mathlib.Omega.{arith}
 use borrow.Author.Tests.{leb-true}
 use lib.Dec.{eqb, leb}
 use lib.ListN.{length, get_or}
+use Rattle.std.proofs.Common.{Option, Ok}
 use Rattle.line.specs.Framing.{fend}
 use Rattle.line.specs.Packing.{body_of, packed_of}
 use Rattle.memory.specs.Edac.{edac_size}
@@ -17,10 +18,9 @@ use Rattle.file_commands.specs.WriteFile.{write_file_of}
 use Rattle.command.proofs.Codes.{in_application}
 use Rattle.answer.specs.Answers.{number_of}
 use Rattle.judging.specs.declared.Unit.{Unit}
-use Rattle.ports.specs.declared.Answered.{Answered}
+use Rattle.ports.specs.declared.Side.{Side}
 use Rattle.ports.specs.Ports.{answered_on, is_sending}
 use Rattle.judging.specs.declared.Lengths.{Lengths}
-use Rattle.judging.specs.declared.fitting.Fit.TheVariants.{Fits}
 use Rattle.judging.specs.Fitting.{fram_fits, fram_as_set_up, frams_as_set_up, step_fit}
 use Rattle.judging.proofs.Serving.{both_hold, passed_step, a_served_step_fits}
 use Rattle.replying.specs.Replies.{code_of, polls, sealed, reply_message}
@@ -102,7 +102,7 @@ module _ (way : Way) (source control : ℕ) (field : List ℕ) (c : Call) (sends
       let same = the_same_is_met way.side way.unit way.message way.calls in
       a_packed_command_is_carried_out way.side way.unit way.message way.calls c sends.serves sends.suiting sends.suits sends.ends sends.here sends.undisturbed
       way.destination source control field sends.bytes sends.short sends.idle sends.packed
-      ∙ ap (λ (a : Answered). delivering n (answered_by a open_there c.sending way.destination source control field laid))
+      ∙ ap (λ (a : Option Side). delivering n (answered_by a open_there c.sending way.destination source control field laid))
       (ap (λ (s : ℕ). answered_on s way.side way.destination) same.0 ∙ sends.heard)
 
   pub what_a_sent_command_leaves : left_by way c ≡ answering_so came
@@ -116,7 +116,7 @@ module _ (way : Way) (source control : ℕ) (field : List ℕ) (c : Call) (sends
       ap sent_by (what_a_sent_command_leaves ∙ ap answering_so is)
       ∙ what_is_sent_is_the_packed_answer open_there way.telemetry busy way.destination source control field laid each.0 each.1 (done reply after) done_is_no_fault
 
-  fits : step_fit way.unit c.port (lengths_of (lent_to way.side way.message c)) ≡ Fits
+  fits : step_fit way.unit c.port (lengths_of (lent_to way.side way.message c)) ≡ Ok tt
   fits = a_call_that_suits_fits way.side way.unit way.message c sends.serves sends.suits
 
   pub edac_is_whole : length c.lent.edac ≡ edac_size

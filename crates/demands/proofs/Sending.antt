@@ -7,9 +7,8 @@ use Rattle.carrying.specs.Ending.{Ending, done, refused, unfitted}
 use Rattle.carrying.specs.Held.{Held}
 use Rattle.answer.specs.Answers.{number_of}
 use Rattle.ports.specs.declared.Side.{Side}
-use Rattle.ports.specs.declared.Sending.{Sending}
 use Rattle.ports.specs.Sides.{side_of, of_side}
-use Rattle.ports.specs.Ports.{is_sending}
+use Rattle.ports.specs.Ports.{Sending, is_sending}
 use Rattle.judging.specs.declared.Unit.{Unit}
 use Rattle.judging.specs.declared.Verdict.{Verdict}
 use Rattle.judging.specs.declared.Verdict.TheVariants.{Quiet, Dropped, Command}

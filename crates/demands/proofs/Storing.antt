@@ -17,7 +17,7 @@ use Rattle.read_only.specs.ReadOnly.{read_only, keeping}
 use Rattle.memory.specs.Edac.{edac_size}
 use Rattle.memory.proofs.Tests.{either_side}
 use Rattle.blocks.specs.Fram.{Kept, kept, place_of}
-use Rattle.blocks.specs.declared.Found.TheVariants.{At}
+use Rattle.std.proofs.Common.{Some}
 use Rattle.carrying.specs.declared.Mode.{Mode}
 use Rattle.carrying.specs.declared.Mode.TheVariants.{Bootloader, Application}
 use Rattle.carrying.specs.Ending.{Ending, done, refused, unfitted}
@@ -164,7 +164,7 @@ module _ (other which : Which) (field : List ℕ) (apart : other ≡ which → �
       (λ clear. at_any_place_alike as_it_was (place_of (first_of other) (length fram) (word32_at field 0) count) _ _
       (λ at found. ap (λ l. done l tt) (sym (untouched_there at found clear))))))
     where
-      untouched_there : (at : ℕ) → place_of (first_of other) (length fram) (word32_at field 0) count ≡ At at → over_border (word32_at field 0) count ≡ false
+      untouched_there : (at : ℕ) → place_of (first_of other) (length fram) (word32_at field 0) count ≡ Some at → over_border (word32_at field 0) count ≡ false
           → as_it_was (take 4 field ++ stretch at count fram) ≡ take 4 field ++ stretch at count fram
       untouched_there at found clear =
           let here = a_place_is_where_its_address_says (first_of other) (length fram) (word32_at field 0) count at found in

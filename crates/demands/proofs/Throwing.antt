@@ -9,6 +9,7 @@ use borrow.Author.Tests.{eq-eqb, ne_eqb, eqb-true, eqb-false, leb-true}
 use lib.Dec.{eqb, leb}
 use lib.ListN.{length, get_or}
 use lib.Seq.{get_or-set_other}
+use Rattle.std.proofs.Common.{Option, Some, None, Ok, Err}
 use Rattle.line.specs.Framing.{fend, fesc, tfend, tfesc}
 use Rattle.line.specs.Unpacking.{NoFend}
 use Rattle.line.specs.declared.receiver.Heard.{Heard}
@@ -26,17 +27,11 @@ use Rattle.ports.specs.declared.Side.{Side}
 use Rattle.ports.specs.declared.Side.TheVariants.{Zero, One}
 use Rattle.ports.specs.declared.Port.{Port}
 use Rattle.ports.specs.declared.Port.TheVariants.{Hearing, Throwing}
-use Rattle.ports.specs.declared.Ports.{Ports}
-use Rattle.ports.specs.declared.Sending.{Sending}
-use Rattle.ports.specs.declared.Answered.{Answered}
-use Rattle.ports.specs.declared.Answered.TheVariants.{On, Nowhere}
 use Rattle.ports.specs.Sides.{side_of, number_of_side, of_side}
-use Rattle.ports.specs.Ports.{answered_on, port_of, with_port, count_of, AfterByte, hearing, hear_of, closes_some, is_open, first_count, thrown_count, lost_count}
-use Rattle.ports.proofs.Sides.{put_there, port_put}
+use Rattle.ports.specs.Ports.{Ports, Sending, answered_on, port_of, with_port, count_of, AfterByte, hearing, hear_of, closes_some, is_open, first_count, thrown_count, lost_count}
+use Rattle.ports.proofs.Sides.{put_there}
 use Rattle.judging.specs.declared.Unit.{Unit}
-use Rattle.judging.specs.declared.fitting.Fit.{Fit}
-use Rattle.judging.specs.declared.fitting.Fit.TheVariants.{Fits, Unfit}
-use Rattle.judging.specs.Fitting.{step_fit}
+use Rattle.judging.specs.Fitting.{Fit, step_fit}
 use Rattle.judging.specs.Judging.{largest_message, with_ports, verdict_of, received_of, among_both, unless, judge_of}
 use Rattle.judging.proofs.Serving.{both_hold}
 use Rattle.replying.specs.Replies.{polls}
@@ -88,28 +83,28 @@ what_replies_has_closed u number byte sending w replied = apart (step_fit u numb
     not_so k is (inl low) = let h = (few n replied).0 in omega arith
     not_so k is (inr high) = let h = (few n replied).1 in omega arith
 
-    so : step_fit u number (lengths_of w) ≡ Fits → (h : Heard) → (heard_on u number byte w).heard ≡ h
+    so : step_fit u number (lengths_of w) ≡ Ok tt → (h : Heard) → (heard_on u number byte w).heard ≡ h
         → n ≡ number_of (comes_to (unit_heard u number byte w) (side_of number) h sending (world_heard u number byte w)).answer
     so e h is =
         ap (λ (x : Outcome). number_of x.answer) (served_so u number byte sending w e)
         ∙ ap (λ (x : Heard). number_of (comes_to (unit_heard u number byte w) (side_of number) x sending (world_heard u number byte w)).answer) is
 
-    by : step_fit u number (lengths_of w) ≡ Fits → (h : Heard) → (heard_on u number byte w).heard ≡ h → is_open (heard_on u number byte w).port ≡ false
+    by : step_fit u number (lengths_of w) ≡ Ok tt → (h : Heard) → (heard_on u number byte w).heard ≡ h → is_open (heard_on u number byte w).port ≡ false
     by e (heard.Message count) is = what_closes_opens (largest_message u.limit) (port_of (side_of number) u.ports) byte (message_of (side_of number) w) (ap closes_some is)
     by e heard.Taken is = absurd (not_so 0 (so e heard.Taken is) (inl (omega arith)))
     by e heard.Empty is = absurd (not_so 0 (so e heard.Empty is) (inl (omega arith)))
     by e heard.Framing is = absurd (not_so 5 (so e heard.Framing is) (inr (omega arith)))
 
     apart : (f : Fit) → step_fit u number (lengths_of w) ≡ f → is_open (port_of (side_of number) (heard_ports u number byte w)) ≡ false
-    apart (Unfit answer) e =
+    apart (Err answer) e =
         let high = a_refused_step_has_its_number u number (lengths_of w) answer e in
         absurd (not_so (number_of answer)
         (ap (λ f. let j = unless f u w.buffers.messages (among_both (side_of number) w.buffers.messages (received_of u (side_of number) byte (message_of (side_of number) w))) in
         number_of (served_of j.unit j.verdict sending (of_side (side_of number) j.message) (with_messages w j.message)).answer) e)
         (inr (omega arith)))
-    apart Fits e =
+    apart (Ok _) e =
         sym (ap (λ (p : Ports). is_open (port_of (side_of number) p)) (heard_of_one u number byte w e).0)
-        ∙ ap is_open (port_put (side_of number) u.ports (heard_on u number byte w).port)
+        ∙ ap is_open (put_there (side_of number) u.ports (heard_on u number byte w).port)
         ∙ by e (heard_on u number byte w).heard refl
 
 -- what a reply that leaves does to the ports and the counts, by whether a run is open where it leaves
@@ -309,6 +304,6 @@ what_moves_the_count_of_runs_thrown_away u number byte sending w side none =
         (λ _. either_way (λ l. get_or l (thrown_count side) 0 ≡ get_or d (thrown_count side) 0) (is_unsaid n && polls (get_or message 2 0)) _ _
         (λ _. lost (answered_on u.strap (side_of number) (get_or message 0 0))) (λ _. refl)))
       where
-        lost : (a : Answered) → let d = shown_locked (locks u number byte w) w.diagnostics in get_or (one_more_lost a d) (thrown_count side) 0 ≡ get_or d (thrown_count side) 0
-        lost (On telemetry) = other (shown_locked (locks u number byte w) w.diagnostics) (lost_count telemetry) (no_loss telemetry side)
-        lost Nowhere = refl
+        lost : (a : Option Side) → let d = shown_locked (locks u number byte w) w.diagnostics in get_or (one_more_lost a d) (thrown_count side) 0 ≡ get_or d (thrown_count side) 0
+        lost (Some telemetry) = other (shown_locked (locks u number byte w) w.diagnostics) (lost_count telemetry) (no_loss telemetry side)
+        lost None = refl

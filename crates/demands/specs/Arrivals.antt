@@ -1,7 +1,7 @@
 -- Bytes as they come, on either port: 02, T-01. Assumes nothing.
 use Rattle.std.specs.Prelude.{ℕ, List, [], ◌∷◌}
 use Rattle.answer.specs.declared.Answer.TheVariants.{Taken}
-use Rattle.ports.specs.declared.Sending.{Sending}
+use Rattle.ports.specs.Ports.{Sending}
 use Rattle.judging.specs.declared.Unit.{Unit}
 use Rattle.commanding.specs.World.{World, Outcome, outcome}
 use Rattle.unit.specs.Steps.{step_of}

@@ -1,5 +1,5 @@
 -- Calls one after the other, as demands 2 and 3 speak of them. Assumes nothing.
-use Rattle.std.specs.Prelude.{ℕ, ◌+◌, ◌≤◌, ◌<◌, ◌≡◌, List, [], ◌∷◌, Bool, true, false, cond, eqb, length, replicate}
+use Rattle.std.specs.Prelude.{ℕ, ◌+◌, ◌≤◌, ◌<◌, ◌≡◌, List, [], ◌∷◌, Bool, true, false, cond, eqb, length, replicate, Option, Some, None, Ok}
 use Rattle.line.specs.declared.receiver.Heard.{Heard}
 use Rattle.line.specs.Receiver.{opened}
 use Rattle.blocks.specs.Fram.{Kept, fresh_sums}
@@ -13,13 +13,9 @@ use Rattle.ports.specs.declared.Side.{Side}
 use Rattle.ports.specs.declared.Side.TheVariants.{Zero, One}
 use Rattle.ports.specs.declared.Port.{Port}
 use Rattle.ports.specs.declared.Port.TheVariants.{Hearing}
-use Rattle.ports.specs.declared.Sending.{Sending}
-use Rattle.ports.specs.declared.Answered.{Answered}
-use Rattle.ports.specs.declared.Answered.TheVariants.{On, Nowhere}
 use Rattle.ports.specs.Sides.{number_of_side}
-use Rattle.ports.specs.Ports.{answered_on, with_port, count_of, is_open, is_sending}
+use Rattle.ports.specs.Ports.{Sending, answered_on, with_port, count_of, is_open, is_sending}
 use Rattle.judging.specs.declared.Unit.{Unit}
-use Rattle.judging.specs.declared.fitting.Fit.TheVariants.{Fits}
 use Rattle.judging.specs.declared.Lengths.{Lengths}
 use Rattle.judging.specs.Fitting.{frams_as_set_up, largest_count, lengths_fit}
 use Rattle.judging.specs.Judging.{largest_message, verdict_of, with_ports}
@@ -127,7 +123,7 @@ lent_lengths One size c =
 -- port 0 or 1.
 abbrev pub Suits : Side → Unit → ℕ → Call → Type 0
 Suits side u size c =
-    (lengths_fit u.strap (frams_as_set_up u (lent_lengths side size c)) (lent_lengths side size c) Fits ≡ Fits) × (c.port ≤ 1)
+    (lengths_fit u.strap (frams_as_set_up u (lent_lengths side size c)) (lent_lengths side size c) (Ok tt) ≡ Ok tt) × (c.port ≤ 1)
 
 -- Each call on this port does; one on the other, or on none, may lend anything and be refused.
 abbrev pub AllSuit : Side → Unit → ℕ → List Call → Type 0
@@ -148,10 +144,10 @@ comes_to u side h sending w = served_of u (verdict_of (largest_message u.limit) 
 
 -- What a sound message comes to that came in on a port, by its parts: heard there, the command, answered on the port that its address names; else
 -- nothing.
-abbrev pub answered_by : Answered → Unit → Sending → ℕ → ℕ → ℕ → List ℕ → World → Outcome
-answered_by (On telemetry) u sending destination source control field w =
+abbrev pub answered_by : Option Side → Unit → Sending → ℕ → ℕ → ℕ → List ℕ → World → Outcome
+answered_by (Some telemetry) u sending destination source control field w =
     ordered_of u telemetry (is_sending telemetry sending) destination source control field w
-answered_by Nowhere u sending destination source control field w = outcome u Elsewhere w
+answered_by None u sending destination source control field w = outcome u Elsewhere w
 
 abbrev pub addressed_of : Unit → Side → Sending → ℕ → ℕ → ℕ → List ℕ → World → Outcome
 addressed_of u side sending destination source control field w =

@@ -1,18 +1,15 @@
 -- What each answer leaves: 01, "One byte in, one answer out"; 02, T-01 and T-07. Assumes nothing.
-use Rattle.std.specs.Prelude.{◌≡◌, ℕ, ◌+◌, ◌-◌, ◌≤◌, ◌⊎◌, Bool, true, false, cond, ◌&&◌, ◌||◌, List, eqb, leb, take, get_or}
+use Rattle.std.specs.Prelude.{◌≡◌, ℕ, ◌+◌, ◌-◌, ◌≤◌, ◌⊎◌, Bool, true, false, cond, ◌&&◌, ◌||◌, List, eqb, leb, take, get_or, Option, Some, None}
 use Rattle.memory.specs.Bytes.{begun}
 use Rattle.memory.specs.Counts.{counted_up}
 use Rattle.memory.specs.Status.{status_written}
 use Rattle.carrying.specs.Ending.{is_limit}
 use Rattle.ports.specs.declared.Side.{Side}
 use Rattle.ports.specs.declared.Side.TheVariants.{Zero}
-use Rattle.ports.specs.declared.Ports.{Ports}
 use Rattle.ports.specs.declared.Port.TheVariants.{Throwing}
-use Rattle.ports.specs.declared.Sending.{Sending}
-use Rattle.ports.specs.declared.Answered.{Answered}
-use Rattle.ports.specs.declared.Answered.TheVariants.{On, Nowhere}
-use Rattle.ports.specs.Sides.{side_of, number_of_side, Both, of_side}
-use Rattle.ports.specs.Ports.{answered_on, port_of, with_port, both_fresh, count_of, is_open, is_sending, first_count, thrown_count, lost_count}
+use Rattle.ports.specs.declared.Both.{Both}
+use Rattle.ports.specs.Sides.{side_of, number_of_side, of_side}
+use Rattle.ports.specs.Ports.{Ports, Sending, answered_on, port_of, with_port, both_fresh, count_of, is_open, is_sending, first_count, thrown_count, lost_count}
 use Rattle.judging.specs.declared.Unit.{Unit}
 use Rattle.judging.specs.Judging.{with_ports, judge_of}
 use Rattle.answer.specs.Answers.{number_of, sent_of}
@@ -39,9 +36,9 @@ abbrev pub is_commanded : ℕ → Bool
 is_commanded number = has_reply number || is_unsaid number || eqb number 10
 
 -- One more reply lost, on the port on which it should have left.
-abbrev pub one_more_lost : Answered → List ℕ → List ℕ
-one_more_lost (On telemetry) diagnostics = counted_up diagnostics (lost_count telemetry)
-one_more_lost Nowhere diagnostics = diagnostics
+abbrev pub one_more_lost : Option Side → List ℕ → List ℕ
+one_more_lost (Some telemetry) diagnostics = counted_up diagnostics (lost_count telemetry)
+one_more_lost None diagnostics = diagnostics
 
 -- The counts by the answer. 5 to 8 each add one to an error count of the byte's port, in that order. 1 and 3 add one to the runs thrown away on the port
 -- on which the reply leaves, if a run is open there; 2 and 4 one to the replies lost, if poll was set. No other answer moves a count. `strap` is the
@@ -83,14 +80,14 @@ pub record Leaves (u : Unit) (number : ℕ) (sending : Sending) (heard : Ports) 
   -- are unchanged.
   pub reply : (side : Side) → reply_of side o.world ≡ begun (reply_of side w) (take (sent_on side o) (reply_of side o.world))
   -- 1 to 4 and 10: the message is for an address that is heard on the byte's port.
-  pub ours : is_commanded (number_of o.answer) ≡ true → answered_on u.strap (side_of number) (get_or (of_side (side_of number) messages) 0 0) ≡ Nowhere → ⊥
+  pub ours : is_commanded (number_of o.answer) ≡ true → answered_on u.strap (side_of number) (get_or (of_side (side_of number) messages) 0 0) ≡ None → ⊥
   -- 1 and 3: poll is set, and the reply leaves on the port that the address names, which is not sending. 2 and 4 with poll set: that port is sending. Where no
   -- reply leaves the port is told as 0.
   pub leaving : has_reply (number_of o.answer) ≡ true
-      → (answered_on u.strap (side_of number) (get_or (of_side (side_of number) messages) 0 0) ≡ On o.port) × (polls (get_or (of_side (side_of number) messages) 2 0) ≡ true)
+      → (answered_on u.strap (side_of number) (get_or (of_side (side_of number) messages) 0 0) ≡ Some o.port) × (polls (get_or (of_side (side_of number) messages) 2 0) ≡ true)
       × (is_sending o.port sending ≡ false)
   pub losing : is_unsaid (number_of o.answer) ≡ true → polls (get_or (of_side (side_of number) messages) 2 0) ≡ true
-      → (telemetry : Side) → answered_on u.strap (side_of number) (get_or (of_side (side_of number) messages) 0 0) ≡ On telemetry → is_sending telemetry sending ≡ true
+      → (telemetry : Side) → answered_on u.strap (side_of number) (get_or (of_side (side_of number) messages) 0 0) ≡ Some telemetry → is_sending telemetry sending ≡ true
   pub on_no_port : has_reply (number_of o.answer) ≡ false → o.port ≡ Zero
   pub strap : o.unit.strap ≡ u.strap
   pub bootloader_length : o.unit.bootloader_len ≡ u.bootloader_len

@@ -1,5 +1,5 @@
 -- A command that is sent to a unit, and what it comes to: 01, "The line", "The message" and "Commands"; 02, T-01. Assumes nothing.
-use Rattle.std.specs.Prelude.{ℕ, ◌≤◌, ◌≡◌, Bool, cond, not, ◌&&◌, List, ◌∷◌, ◌++◌, length, take, drop}
+use Rattle.std.specs.Prelude.{ℕ, ◌≤◌, ◌≡◌, Bool, cond, not, ◌&&◌, List, ◌∷◌, ◌++◌, length, take, drop, Some}
 use Rattle.line.specs.Framing.{fend}
 use Rattle.line.specs.Packing.{body_of}
 use Rattle.carrying.specs.Ending.{Ending}
@@ -8,7 +8,6 @@ use Rattle.carrying.specs.Storing.{with_data}
 use Rattle.command.specs.Command.{command_of}
 use Rattle.answer.specs.Answers.{sent_of}
 use Rattle.ports.specs.declared.Side.{Side}
-use Rattle.ports.specs.declared.Answered.TheVariants.{On}
 use Rattle.ports.specs.Sides.{number_of_side}
 use Rattle.ports.specs.Ports.{answered_on, port_of, is_sending}
 use Rattle.judging.specs.declared.Unit.{Unit}
@@ -37,7 +36,7 @@ met way = reached_by way.side way.unit way.message way.calls
 pub record SendsUpTo (most : ℕ) (way : Way) (source control : ℕ) (field : List ℕ) (c : Call) : Type 0 where
   pub serves : Serves way.unit
   pub idle : Idle (port_of way.side way.unit.ports)
-  pub heard : answered_on way.unit.strap way.side way.destination ≡ On way.telemetry
+  pub heard : answered_on way.unit.strap way.side way.destination ≡ Some way.telemetry
   pub bytes : Bytes (way.destination ∷ source ∷ control ∷ field)
   pub short : length field ≤ most
   pub packed : bytes_on way.side way.calls ≡ fend ∷ body_of (sealed (way.destination ∷ source ∷ control ∷ field))

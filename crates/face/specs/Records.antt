@@ -1,15 +1,15 @@
 -- The unit's record and its answers as C has them: numbers for a mode, for where a port stands, for a lock, for a port that is sending and for an
 -- answer. Every number of C means something, so that C can lend any record. Assumes nothing.
-use Rattle.std.specs.Prelude.{ℕ, Bool, true, false, cond, not, List, eqb}
-use Rattle.line.specs.Packing.{Packing}
+use Rattle.std.specs.Prelude.{ℕ, Bool, true, false, cond, not, List, eqb, Result}
+use Rattle.line.specs.declared.packing.PackError.{PackError}
+use Rattle.line.specs.Packing.{Packing, pack_number_of, pack_sent_of}
 use Rattle.line.specs.declared.receiver.Place.{Place}
 use Rattle.line.specs.declared.receiver.Place.TheVariants.{Fresh, Run, Escape, Fault}
 use Rattle.ports.specs.declared.Side.{Side}
 use Rattle.ports.specs.declared.Port.{Port}
 use Rattle.ports.specs.declared.Port.TheVariants.{Hearing, Throwing}
-use Rattle.ports.specs.declared.Sending.{Sending}
 use Rattle.ports.specs.Sides.{number_of_side}
-use Rattle.ports.specs.Ports.{count_of}
+use Rattle.ports.specs.Ports.{Sending, count_of}
 use Rattle.carrying.specs.declared.Mode.{Mode}
 use Rattle.carrying.specs.declared.Mode.TheVariants.{Bootloader, Application}
 use Rattle.answer.specs.Answers.{number_of, sent_of}
@@ -112,6 +112,10 @@ returned_many r w = record { many = r; world = w }
 abbrev pub returned_many_by : Stream → ReturnedMany
 returned_many_by s =
     let o = s.last in returned_many (record { last = stepped_out o.unit o.answer o.cost o.port; taken = s.taken }) o.world
+
+-- What packing answers as it goes to C: 01's number, and the bytes sent.
+abbrev pub packed_out : Result ℕ PackError → WheelPacked
+packed_out packed = record { sent = pack_sent_of packed; answer = pack_number_of packed }
 
 -- What packing gives back, with the reply buffer as it leaves it.
 abbrev pub packing_by : WheelPacked → List ℕ → Packing

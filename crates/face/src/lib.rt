@@ -4,15 +4,15 @@
 pub mod converting;
 
 ghost use Rattle.std.specs.Prelude.{◌≡◌};
-ghost use Rattle.crc.specs.Joining.{join_of};
+ghost use Rattle.crc.specs.Joining.{joining_of, join_of};
 ghost use Rattle.line.specs.Packing.{pack_of};
 ghost use Rattle.file_commands.specs.WriteFile.{judge_list_of, storage, store_list_of};
 ghost use Rattle.face.specs.Face.{part_in, joined_out, yes_out};
-ghost use Rattle.face.specs.Records.{packing_by};
+ghost use Rattle.face.specs.Records.{packed_out, packing_by};
 
-use crc::{Joined, Part};
-use file_commands::write_file::{Storing, judge_list, store_list};
-use line::packing::Packed;
+use crc::{JoinError, Part};
+use file_commands::write_file::{StoreError, judge_list, store_list};
+use line::packing::PackError;
 
 // A part as C holds it.
 #[repr(C)]
@@ -74,71 +74,78 @@ pub struct WheelPacked {
     pub answer: u8,
 }
 
+impl From<WheelPart> for Part {
+    ghost from_gives = { λ p r. r ≡ part_in p };
+
+    fn from(part: WheelPart) -> Part {
+        Part {
+            sum: part.sum,
+            len: part.len,
+        }
+    }
+}
+
+impl From<Result<Part, JoinError>> for WheelJoined {
+    ghost from_gives = { λ j r. r ≡ joined_out (joining_of j) };
+
+    fn from(joined: Result<Part, JoinError>) -> WheelJoined {
+        match joined {
+            Ok(part) => WheelJoined {
+                answer: 0,
+                part: WheelPart {
+                    sum: part.sum,
+                    len: part.len,
+                },
+            },
+            Err(JoinError::TooLong) => WheelJoined {
+                answer: 36,
+                part: WheelPart { sum: 0, len: 0 },
+            },
+        }
+    }
+}
+
+impl From<Result<usize, PackError>> for WheelPacked {
+    ghost from_gives = { λ p r. r ≡ packed_out p };
+
+    fn from(packed: Result<usize, PackError>) -> WheelPacked {
+        let answer = match packed {
+            Ok(_) => 0,
+            Err(PackError::ShortReply) => 25,
+            Err(PackError::BadLength) => 35,
+        };
+        WheelPacked {
+            sent: packed.unwrap_or(0) as u64,
+            answer,
+        }
+    }
+}
+
 // Joining, packing, and judging and storing a list, as C has them.
 pub fn joined(first: WheelPart, second: WheelPart) -> WheelJoined
     ensures { result ≡ joined_out (join_of (part_in first) (part_in second)) }
 {
-    let a = Part {
-        sum: first.sum,
-        len: first.len,
-    };
-    let b = Part {
-        sum: second.sum,
-        len: second.len,
-    };
-    let both = crc::join(a, b);
-    match both {
-        Joined::Whole(p) => WheelJoined {
-            answer: 0,
-            part: WheelPart {
-                sum: p.sum,
-                len: p.len,
-            },
-        },
-        Joined::TooLong => WheelJoined {
-            answer: 36,
-            part: WheelPart { sum: 0, len: 0 },
-        },
-    }
+    crc::join(Part::from(first), Part::from(second)).into()
 }
 
 pub fn packed(message: &[u8], reply: &mut [u8]) -> WheelPacked
     ensures { packing_by result reply.new ≡ pack_of message.now reply.old }
 {
-    let sent = line::packing::pack(message, reply);
-    match sent {
-        Packed::Sent(n) => WheelPacked {
-            sent: n as u64,
-            answer: 0,
-        },
-        Packed::ShortReply => WheelPacked {
-            sent: 0,
-            answer: 25,
-        },
-        Packed::BadLength => WheelPacked {
-            sent: 0,
-            answer: 35,
-        },
-    }
+    line::packing::pack(message, reply).into()
 }
 
 pub fn judged(limit: u64, list: &[u8]) -> u8
     ensures { result ≡ yes_out (judge_list_of limit list.now) }
 {
-    if judge_list(limit as usize, list, 0) {
-        1
-    } else {
-        0
-    }
+    u8::from(judge_list(limit as usize, list, 0))
 }
 
 pub fn stored(limit: u64, edac: &mut [u8], list: &[u8]) -> u8
     ensures { storage result edac.new ≡ store_list_of limit edac.old list.now }
 {
-    let storing = store_list(limit as usize, edac, list, 0);
-    match storing {
-        Storing::Stored => 0,
-        Storing::Unfit => 4,
-        Storing::BadEdac => 21,
+    match store_list(limit as usize, edac, list, 0) {
+        Ok(()) => 0,
+        Err(StoreError::Unfit) => 4,
+        Err(StoreError::BadEdac) => 21,
     }
 }
