@@ -1,134 +1,98 @@
-// The unit, lent its memory.
+// The unit's memory, lent to it for each call.
 #![tactic(auto)]
 
-use answer::{number_of, sent_of};
-use line::receiver::Receiver;
-use ports::{Port, Ports, Sending, Side};
+use ports::{Both, Side, sent_by};
 use unit::{Stepped, Unit};
+use words::arguments::Arguments;
 
-// The unit after a call, the number of the answer, what a command cost, and how many bytes of a reply are to be sent, and on which
-// port.
-#[derive(Clone, Copy)]
-pub struct Fed {
-    pub unit: Unit,
-    pub number: u8,
-    pub cost: u32,
-    pub sent: usize,
-    pub port: Side,
+// One of each array. Both FRAMs have room for the largest, and of each as much is lent as was asked for: by way of a slice of the whole,
+// since of a part of a field that is lent to be written no proof is made.
+#[derive(Drop)]
+pub struct Memory {
+    fitted: Arguments,
+    edac: [u8; 1536],
+    bootloader: [u8; 262144],
+    bootloader_sums: [u16; 1024],
+    fram: [u8; 262144],
+    sums: [u16; 1024],
+    pub diagnostics: [u32; 31],
+    message0: [u8; 1033],
+    reply0: [u8; 2068],
+    message1: [u8; 1033],
+    reply1: [u8; 2068],
 }
 
-// A port made again from its parts. A copy has the gaps of its layout too, which on the way through a loop cost more than all the rest.
-fn made_again(port: Port) -> Port {
-    match port {
-        Port::Hearing(receiver) => {
-            let place = receiver.place;
-            Port::Hearing(Receiver {
-                place,
-                count: receiver.count,
-            })
+impl Memory {
+    pub fn fresh(fitted: Arguments) -> Memory {
+        Memory {
+            fitted,
+            edac: [0; 1536],
+            bootloader: [0; 262144],
+            bootloader_sums: [0; 1024],
+            fram: [0; 262144],
+            sums: [0; 1024],
+            diagnostics: [0; 31],
+            message0: [0; 1033],
+            reply0: [0; 2068],
+            message1: [0; 1033],
+            reply1: [0; 2068],
         }
-        Port::Throwing(count) => Port::Throwing(count),
     }
-}
 
-fn without_gaps(unit: Unit) -> Unit {
-    let mode = unit.mode;
-    let ports = unit.ports;
-    let port0 = ports.port0;
-    let port1 = ports.port1;
-    Unit {
-        strap: unit.strap,
-        limit: unit.limit,
-        mode,
-        locked: unit.locked,
-        bootloader_len: unit.bootloader_len,
-        fram_len: unit.fram_len,
-        ports: Ports {
-            port0: made_again(port0),
-            port1: made_again(port1),
-        },
+    // Sets a unit up.
+    pub fn set_up(&mut self) -> Unit {
+        let fitted = self.fitted;
+        let bootloader_sums = &mut self.bootloader_sums[..];
+        let sums = &mut self.sums[..];
+        unit::set_up(
+            fitted.strap,
+            fitted.limit,
+            fitted.locked,
+            &self.edac,
+            &self.bootloader[..fitted.bootloader],
+            &mut bootloader_sums[..fitted.bootloader / 256],
+            &self.fram[..fitted.fram],
+            &mut sums[..fitted.fram / 256],
+            &mut self.diagnostics,
+            &self.message0,
+            &self.reply0,
+            &self.message1,
+            &self.reply1,
+        )
+        .unit
     }
-}
 
-fn fed_by(stepped: Stepped) -> Fed {
-    let unit = stepped.unit;
-    let answer = stepped.answer;
-    let port = stepped.port;
-    Fed {
-        unit: without_gaps(unit),
-        number: number_of(answer),
-        cost: stepped.cost,
-        sent: sent_of(answer),
-        port,
+    // Feeds the unit one byte, on port 0. A reply is out of its buffer before the next byte is fed, so that no port is ever sending.
+    pub fn feed(&mut self, unit: Unit, byte: u8) -> Stepped {
+        let fitted = self.fitted;
+        let silent = Both {
+            port0: false,
+            port1: false,
+        };
+        let bootloader = &mut self.bootloader[..];
+        let bootloader_sums = &mut self.bootloader_sums[..];
+        let fram = &mut self.fram[..];
+        let sums = &mut self.sums[..];
+        unit::step(
+            unit,
+            0,
+            byte,
+            silent,
+            &mut self.edac,
+            &mut bootloader[..fitted.bootloader],
+            &mut bootloader_sums[..fitted.bootloader / 256],
+            &mut fram[..fitted.fram],
+            &mut sums[..fitted.fram / 256],
+            &mut self.diagnostics,
+            &mut self.message0,
+            &mut self.reply0,
+            &mut self.message1,
+            &mut self.reply1,
+        )
     }
-}
 
-// Sets a unit up.
-pub fn begun(
-    strap: u8,
-    limit: usize,
-    locked: bool,
-    edac: &[u8; 1536],
-    bootloader: &[u8],
-    bootloader_sums: &mut [u16],
-    fram: &[u8],
-    sums: &mut [u16],
-    diagnostics: &mut [u32; 31],
-    message0: &[u8; 1033],
-    reply0: &[u8; 2068],
-    message1: &[u8; 1033],
-    reply1: &[u8; 2068],
-) -> Fed {
-    fed_by(unit::set_up(
-        strap,
-        limit,
-        locked,
-        edac,
-        bootloader,
-        bootloader_sums,
-        fram,
-        sums,
-        diagnostics,
-        message0,
-        reply0,
-        message1,
-        reply1,
-    ))
-}
-
-// Feeds the unit one byte, on port 0. A reply is out of its buffer before the next byte is fed, so that no port is ever sending.
-pub fn feed(
-    held: Unit,
-    byte: u8,
-    edac: &mut [u8; 1536],
-    bootloader: &mut [u8],
-    bootloader_sums: &mut [u16],
-    fram: &mut [u8],
-    sums: &mut [u16],
-    diagnostics: &mut [u32; 31],
-    message0: &mut [u8; 1033],
-    reply0: &mut [u8; 2068],
-    message1: &mut [u8; 1033],
-    reply1: &mut [u8; 2068],
-) -> Fed {
-    let silent = Sending {
-        port0: false,
-        port1: false,
-    };
-    fed_by(unit::step(
-        held,
-        0,
-        byte,
-        silent,
-        edac,
-        bootloader,
-        bootloader_sums,
-        fram,
-        sums,
-        diagnostics,
-        message0,
-        reply0,
-        message1,
-        reply1,
-    ))
+    // The reply of so many bytes that left on a port.
+    pub fn reply(&self, side: Side, sent: usize) -> &[u8] {
+        sent_by(side, sent, &self.reply0, &self.reply1)
+    }
 }

@@ -1,182 +1,186 @@
 // The program's arguments: a strap, a size of FRAM, a limit, a size of bootloader FRAM and a file for port 1, each in decimal, or in
 // hexadecimal after 0x; and whether bootloader FRAM is locked, in a word.
 
-ghost use Rattle.std.specs.Prelude.{◌≤◌};
+ghost use Rattle.std.specs.Prelude.{◌≤◌, IfOk};
 
+use judging::Lengths;
+use judging::fitting::set_up_fit;
 use std::env::FillError;
+use std::fmt;
 use std::rt::Env;
-
-// What a word stands for that is no number, or a larger one than any that is asked for.
-const BAD: u64 = 0xffff_ffff;
-
-// The first file descriptor that may be port 1, behind the standard ones, and the first that may not.
-const FIRST_FILE: u64 = 3;
-
-pub const NO_FILE: u64 = 1024;
 
 // The longest argument that is read. A longer one stands for nothing.
 const LONGEST: usize = 4096;
 
-// What a digit counts, and 16 for a byte that is none.
-fn digit(byte: u8) -> u8 {
-    match byte {
-        b'0'..=b'9' => byte - b'0',
-        b'a'..=b'f' => byte - b'a' + 10,
-        b'A'..=b'F' => byte - b'A' + 10,
-        _ => 16,
-    }
+// What is taken where there is no such argument.
+const STRAP: usize = 1;
+
+const FRAM: usize = 65_536;
+
+const LIMIT: usize = 1_028;
+
+// The most bytes of an FRAM that there is room for.
+const MOST_FRAM: usize = 262_144;
+
+// What a wheel is made of.
+#[derive(Clone, Copy)]
+pub struct Arguments {
+    pub strap: u8,
+    pub fram: usize,
+    pub limit: usize,
+    pub bootloader: usize,
+    pub locked: bool,
+    // The file descriptor for replies on port 1, if there is one.
+    pub port1: Option<i32>,
+    ghost fram_has_room: { fram ≤ 262144 },
+    ghost bootloader_has_room: { bootloader ≤ 262144 },
 }
 
-// A number with one digit more.
-fn longer(value: u64, is_hex: bool, byte: u8) -> u64 {
-    if value > 0xff_ffff {
-        return BAD;
-    }
-    let next = digit(byte) as u64;
-    if next > 15 {
-        return BAD;
-    }
-    if is_hex {
-        return value * 16 + next;
-    }
-    if next > 9 {
-        return BAD;
-    }
-    value * 10 + next
+// The argument that will not do.
+#[derive(Clone, Copy, PartialEq, Eq)]
+pub enum ArgumentError {
+    TooMany,
+    BadStrap,
+    BadFram,
+    BadLimit,
+    BadBootloader,
+    BadLock,
+    BadPort1,
 }
 
-// The number that some digits stand for.
-fn value(digits: &[u8], is_hex: bool) -> u64 {
-    if digits.is_empty() {
-        return BAD;
-    }
-    let mut value: u64 = 0;
-    for byte in digits {
-        value = longer(value, is_hex, *byte);
-    }
-    value
-}
-
-fn number(text: &[u8]) -> u64 {
-    if text.len() > 2 {
-        if text[0] == b'0' {
-            if text[1] == b'x' {
-                return value(&text[2..], true);
+impl fmt::Display for ArgumentError {
+    fn fmt<W: fmt::Write>(&self, f: &mut fmt::Formatter<W>) -> fmt::Result {
+        match self {
+            ArgumentError::TooMany => write!(f, "there are at most six arguments"),
+            ArgumentError::BadStrap => write!(f, "STRAP is a number from 0 to 7"),
+            ArgumentError::BadFram => { write!(f, "FRAM is a multiple of 256 from 256 to 262144") }
+            ArgumentError::BadLimit => write!(f, "LIMIT is a number from 260 to 1028"),
+            ArgumentError::BadBootloader => {
+                write!(f, "BOOTLOADER is a multiple of 256 from 256 to 262144")
             }
+            ArgumentError::BadLock => write!(f, "LOCK is locked or unlocked"),
+            ArgumentError::BadPort1 => write!(f, "PORT1 is a number from 3 to 1023"),
         }
     }
-    value(text, false)
 }
 
-// The number of one argument, or the one that is taken where there is none.
-fn argument(rt: &impl Env, place: usize, otherwise: u64) -> u64 {
+// The number that a text is, if it is one.
+fn parsed(text: &[u8]) -> Option<usize> {
+    let text = str::from_utf8(text).ok()?;
+    let (digits, radix) = match text.strip_prefix("0x") {
+        Some(digits) => (digits, 16),
+        None => (text, 10),
+    };
+    // A sign is no digit here.
+    if digits.starts_with('+') {
+        return None;
+    }
+    usize::from_str_radix(digits, radix).ok()
+}
+
+// The number that an argument is, `None` where there is no argument at this place, and this error where it is no number.
+fn number(
+    rt: &impl Env,
+    place: usize,
+    error: ArgumentError,
+) -> Result<Option<usize>, ArgumentError> {
     let mut text = [0u8; LONGEST];
     match rt.arg(place, &mut text) {
-        Ok(length) => number(&text[..length]),
-        Err(FillError::TooLong) => BAD,
-        Err(FillError::NotPresent) => otherwise,
+        Ok(length) => Ok(Some(parsed(&text[..length]).ok_or(error)?)),
+        Err(FillError::NotPresent) => Ok(None),
+        Err(FillError::TooLong) => Err(error),
     }
 }
 
+// A size of FRAM that there is room for. Which of these FRAM cannot have is for the unit to say.
+fn size(rt: &impl Env, place: usize, error: ArgumentError) -> Result<usize, ArgumentError>
+    ensures { IfOk result (λ size. size ≤ 262144) }
+{
+    match number(rt, place, error)?.unwrap_or(FRAM) {
+        size @ 0..=MOST_FRAM => Ok(size),
+        _ => Err(error),
+    }
+}
+
+// Whether bootloader FRAM is locked.
+fn locked(rt: &impl Env) -> Result<bool, ArgumentError> {
+    let mut text = [0u8; LONGEST];
+    match rt.arg(5, &mut text) {
+        Ok(length) => match &text[..length] {
+            b"unlocked" => Ok(false),
+            b"locked" => Ok(true),
+            _ => Err(ArgumentError::BadLock),
+        },
+        Err(FillError::NotPresent) => Ok(false),
+        Err(FillError::TooLong) => Err(ArgumentError::BadLock),
+    }
+}
+
+// The file descriptor for replies on port 1, if there is one: none of the standard ones.
+fn port1(rt: &impl Env) -> Result<Option<i32>, ArgumentError> {
+    match number(rt, 6, ArgumentError::BadPort1)? {
+        None => Ok(None),
+        Some(number @ 3..=1023) => Ok(Some(number as i32)),
+        Some(_) => Err(ArgumentError::BadPort1),
+    }
+}
+
+// Asks the unit whether it can be set up so, with both FRAMs of this size; this error where it cannot.
+fn judge(strap: u8, size: usize, limit: usize, error: ArgumentError) -> Result<(), ArgumentError> {
+    let lengths = Lengths {
+        edac: 1536,
+        bootloader: size,
+        bootloader_sums: size / 256,
+        fram: size,
+        sums: size / 256,
+        diagnostics: 31,
+        message0: 1033,
+        reply0: 2068,
+        message1: 1033,
+        reply1: 2068,
+    };
+    set_up_fit(strap, limit, lengths).map_err(|_| error)
+}
+
+impl Arguments {
+    // What the arguments ask for, or the error of the first that will not do: each is judged beside those before it, which will do.
+    pub fn parsed(rt: &impl Env) -> Result<Arguments, ArgumentError> {
+        if !is_missing(rt, 7) {
+            return Err(ArgumentError::TooMany);
+        }
+        let strap = number(rt, 1, ArgumentError::BadStrap)?.unwrap_or(STRAP);
+        let Ok(strap) = u8::try_from(strap) else {
+            return Err(ArgumentError::BadStrap);
+        };
+        judge(strap, FRAM, LIMIT, ArgumentError::BadStrap)?;
+        let fram = size(rt, 2, ArgumentError::BadFram)?;
+        judge(strap, fram, LIMIT, ArgumentError::BadFram)?;
+        let limit = number(rt, 3, ArgumentError::BadLimit)?.unwrap_or(LIMIT);
+        judge(strap, fram, limit, ArgumentError::BadLimit)?;
+        let bootloader = size(rt, 4, ArgumentError::BadBootloader)?;
+        judge(strap, bootloader, limit, ArgumentError::BadBootloader)?;
+        Ok(Arguments {
+            strap,
+            fram,
+            limit,
+            bootloader,
+            locked: locked(rt)?,
+            port1: port1(rt)?,
+        })
+    }
+}
+
+// Whether there is no argument at this place.
 fn is_missing(rt: &impl Env, place: usize) -> bool {
     let mut text = [0u8; LONGEST];
-    match rt.arg(place, &mut text) {
-        Err(FillError::NotPresent) => true,
-        _ => false,
-    }
-}
-
-// The strap that was asked for, and 255, which no unit has, where it is no byte. Which others no unit has is for the unit to say.
-pub fn strap(rt: &impl Env) -> u8 {
-    let number = argument(rt, 1, 1);
-    if number > 255 {
-        return 255;
-    }
-    number as u8
-}
-
-// A size of FRAM that was asked for, and 0, which FRAM never has, where it is too large. Which others FRAM cannot have is for the
-// unit to say.
-fn size(rt: &impl Env, place: usize) -> usize
-    ensures { result ≤ 262144 }
-{
-    let number = argument(rt, place, 65_536);
-    if number > 262_144 {
-        return 0;
-    }
-    number as usize
-}
-
-// The size of user FRAM.
-pub fn fram(rt: &impl Env) -> usize
-    ensures { result ≤ 262144 }
-{
-    size(rt, 2)
-}
-
-// The limit that was asked for: the most data bytes of a message. Which limits no unit has is for the unit to say.
-pub fn limit(rt: &impl Env) -> usize {
-    argument(rt, 3, 1_028) as usize
-}
-
-// The size of bootloader FRAM.
-pub fn bootloader(rt: &impl Env) -> usize
-    ensures { result ≤ 262144 }
-{
-    size(rt, 4)
-}
-
-// Whether one argument is this word.
-fn is_word(rt: &impl Env, place: usize, word: &[u8]) -> bool {
-    let mut text = [0u8; LONGEST];
-    match rt.arg(place, &mut text) {
-        Ok(length) => &text[..length] == word,
-        Err(_) => false,
-    }
-}
-
-// What is said of bootloader FRAM.
-#[derive(Drop)]
-pub enum Locking {
-    Unlocked,
-    Locked,
-    Neither,
-}
-
-pub fn lock(rt: &impl Env) -> Locking {
-    if is_missing(rt, 5) {
-        return Locking::Unlocked;
-    }
-    if is_word(rt, 5, b"unlocked") {
-        return Locking::Unlocked;
-    }
-    if is_word(rt, 5, b"locked") {
-        return Locking::Locked;
-    }
-    Locking::Neither
-}
-
-// The file descriptor that was asked for, for replies on port 1; 0 where there is none, and `NO_FILE` where it can be none.
-pub fn port1(rt: &impl Env) -> u64 {
-    if is_missing(rt, 6) {
-        return 0;
-    }
-    let number = argument(rt, 6, 0);
-    if number < FIRST_FILE {
-        return NO_FILE;
-    }
-    if number > NO_FILE {
-        return NO_FILE;
-    }
-    number
+    matches!(rt.arg(place, &mut text), Err(FillError::NotPresent))
 }
 
 // Whether the first argument asks for help.
 pub fn is_help(rt: &impl Env) -> bool {
-    is_word(rt, 1, b"--help") || is_word(rt, 1, b"-h")
-}
-
-// Whether there are more than six arguments.
-pub fn are_too_many(rt: &impl Env) -> bool {
-    !is_missing(rt, 7)
+    let mut text = [0u8; LONGEST];
+    match rt.arg(1, &mut text) {
+        Ok(length) => matches!(&text[..length], b"--help" | b"-h"),
+        Err(_) => false,
+    }
 }

@@ -1,4 +1,6 @@
 // What is said on standard error, and the help. What cannot be written there is lost: nobody is left to be told.
+use crate::arguments::ArgumentError;
+use std::fmt;
 use std::fmt::InlineText;
 use std::io::{Error, ErrorKind};
 
@@ -23,8 +25,52 @@ const HELP: &str =
     Numbers are decimal, or hexadecimal after 0x. A PING and its reply:\n\
     \x20 printf '\\xc0\\x61\\x11\\x80\\xe3\\x6e\\xc0' | ./run | od -An -tx1z";
 
-fn said(rt: &impl Eprint, words: &str) {
-    let _ = rt.eprintln(words);
+// Where replies are written: on standard output those of port 0, in an open file, known by its number, those of port 1.
+#[derive(Clone, Copy, PartialEq, Eq)]
+pub enum Output {
+    Standard,
+    File(i32),
+}
+
+impl fmt::Display for Output {
+    fn fmt<W: fmt::Write>(&self, f: &mut fmt::Formatter<W>) -> fmt::Result {
+        match self {
+            Output::Standard => write!(f, "standard output"),
+            Output::File(_) => write!(f, "the file of port 1"),
+        }
+    }
+}
+
+// How many bytes were written on port 0 and how many of these were FEND, and how many replies left on port 1.
+#[derive(Clone, Copy)]
+pub struct Sent {
+    pub bytes: u64,
+    pub fends: u64,
+    pub left1: u64,
+}
+
+// How often each answer came, by its number, and the largest cost of a CRC.
+#[derive(Clone, Copy)]
+pub struct Tally {
+    answers: [u64; 30],
+    largest: u32,
+}
+
+impl Tally {
+    pub fn fresh() -> Tally {
+        Tally {
+            answers: [0; 30],
+            largest: 0,
+        }
+    }
+
+    // Counts one more answer of this number, and what the command cost.
+    pub fn count(&mut self, number: u8, cost: u32) {
+        if let Some(times) = self.answers.get_mut(usize::from(number)) {
+            *times = times.wrapping_add(1);
+        }
+        self.largest = self.largest.max(cost);
+    }
 }
 
 pub fn help(rt: &impl Print) {
@@ -33,40 +79,12 @@ pub fn help(rt: &impl Print) {
 }
 
 // Of an argument that will not do.
-fn refused(rt: &impl Eprint, why: &str) {
-    let _ = eprintln!(rt; "wheel: {why}; {}", USAGE);
+pub fn refused(rt: &impl Eprint, error: ArgumentError) {
+    let _ = eprintln!(rt; "wheel: {error}; {}", USAGE);
 }
 
-pub fn too_many(rt: &impl Eprint) {
-    refused(rt, "there are at most six arguments");
-}
-
-pub fn bad_strap(rt: &impl Eprint) {
-    refused(rt, "STRAP is a number from 0 to 7");
-}
-
-pub fn bad_fram(rt: &impl Eprint) {
-    refused(rt, "FRAM is a multiple of 256 from 256 to 262144");
-}
-
-pub fn bad_limit(rt: &impl Eprint) {
-    refused(rt, "LIMIT is a number from 260 to 1028");
-}
-
-pub fn bad_bootloader(rt: &impl Eprint) {
-    refused(rt, "BOOTLOADER is a multiple of 256 from 256 to 262144");
-}
-
-pub fn bad_lock(rt: &impl Eprint) {
-    refused(rt, "LOCK is locked or unlocked");
-}
-
-pub fn bad_port1(rt: &impl Eprint) {
-    refused(rt, "PORT1 is a number from 3 to 1023");
-}
-
-// A read or a write of a file that failed, and what could not be done.
-fn failed(rt: &impl Eprint, file: &str, what: &str, error: Error) {
+// A read or a write that failed, and what could not be done.
+fn failed(rt: &impl Eprint, file: impl fmt::Display + Drop, what: &str, error: Error) {
     if error.kind() == ErrorKind::WouldBlock {
         let _ = eprintln!(rt;
             "wheel: {file} would block: O_NONBLOCK is set on it; open it without"
@@ -76,10 +94,9 @@ fn failed(rt: &impl Eprint, file: &str, what: &str, error: Error) {
     // The error's own words are the system's, and then its number in brackets, which is not said.
     let text = InlineText::<128>::of(error);
     let all = text.as_str();
-    let why = match all.split_once(" (os error ") {
-        Some((words, _)) => words,
-        None => all,
-    };
+    let why = all
+        .split_once(" (os error ")
+        .map_or(all, |(words, _)| words);
     let _ = eprintln!(rt; "wheel: cannot {what} {file}: {why}");
 }
 
@@ -87,102 +104,45 @@ pub fn read_failed(rt: &impl Eprint, error: Error) {
     failed(rt, "standard input", "read", error);
 }
 
-// The name of a port's output.
-fn output(port: u64) -> &'static str {
-    if port == 0 {
-        "standard output"
-    } else {
-        "the file of port 1"
-    }
+pub fn write_failed(rt: &impl Eprint, output: Output, error: Error) {
+    failed(rt, output, "write", error);
 }
 
-// Of a port's output.
-pub fn write_failed(rt: &impl Eprint, port: u64, error: Error) {
-    failed(rt, output(port), "write", error);
-}
-
-pub fn takes_nothing(rt: &impl Eprint, port: u64) {
-    let file = output(port);
-    let _ = eprintln!(rt; "wheel: {file} takes no bytes");
-}
-
-// A line with a name and a number.
-fn line(rt: &impl Eprint, name: &str, value: u64) {
-    let _ = eprintln!(rt; "{name}: {value}");
+pub fn takes_nothing(rt: &impl Eprint, output: Output) {
+    let _ = eprintln!(rt; "wheel: {output} takes no bytes");
 }
 
 // A reply that left on port 1, where there is no file for it.
-pub fn left_on_port1(rt: &impl Eprint, length: u64) {
+pub fn left_on_port1(rt: &impl Eprint, length: usize) {
     let _ = eprintln!(rt; "wheel: a reply of {length} bytes left on port 1");
 }
 
-// A line with a name, a place and the number there, unless that is 0.
-fn numbered(rt: &impl Eprint, name: &str, i: usize, value: u64) {
-    if value > 0 {
-        let _ = eprintln!(rt; "{name} {i}: {value}");
+// How often each answer came that did, by its number.
+fn answers(rt: &impl Eprint, answers: &[u64; 30]) {
+    for (number, times) in answers.iter().enumerate().filter(|(_, times)| **times > 0) {
+        let _ = eprintln!(rt; "answer {number}: {times}");
     }
 }
 
-// How often each answer came, by its number.
-fn answers(rt: &impl Eprint, tally: &[u64; 30]) {
-    for i in 0..30 {
-        numbered(rt, "answer", i, tally[i]);
-    }
-}
-
-// How far a diagnostic has moved. All were 0 when the wheel was set up but the FRAM status, of which the lock is said in words.
-fn moved(i: usize, value: u32) -> u64 {
-    if i == FRAM_STATUS {
-        return 0;
-    }
-    value as u64
-}
-
-// The diagnostics that moved.
-fn diagnostics(rt: &impl Eprint, values: &[u32; 31]) {
-    for i in 0..31 {
-        numbered(rt, "diagnostic", i, moved(i, values[i]));
-    }
-}
-
-// Whether bootloader FRAM is locked.
-fn lock(rt: &impl Eprint, locked: bool) {
-    if locked {
-        said(rt, "bootloader FRAM: locked");
-    } else {
-        said(rt, "bootloader FRAM: unlocked");
+// The diagnostics that moved. All were 0 when the wheel was set up but the FRAM status, of which the lock is said in words.
+fn diagnostics(rt: &impl Eprint, diagnostics: &[u32; 31]) {
+    for (channel, value) in diagnostics
+        .iter()
+        .enumerate()
+        .filter(|(channel, value)| *channel != FRAM_STATUS && **value > 0)
+    {
+        let _ = eprintln!(rt; "diagnostic {channel}: {value}");
     }
 }
 
 // What is said at the end. A reply has two FENDs, its first byte and its last.
-pub fn ended(
-    rt: &impl Eprint,
-    tally: &[u64; 30],
-    values: &[u32; 31],
-    locked: bool,
-    largest: u32,
-    bytes: u64,
-    fends: u64,
-    left1: u64,
-) {
-    answers(rt, tally);
+pub fn ended(rt: &impl Eprint, tally: &Tally, values: &[u32; 31], locked: bool, sent: Sent) {
+    answers(rt, &tally.answers);
     diagnostics(rt, values);
-    lock(rt, locked);
-    line(rt, "largest cost of a CRC", largest as u64);
-    line(rt, "replies written on port 0", fends / 2);
-    line(rt, "bytes written on port 0", bytes);
-    line(rt, "replies left on port 1", left1);
-}
-
-// One more answer of its number.
-pub fn count(tally: &mut [u64; 30], number: u8) {
-    let i = number as usize;
-    if i < 30 {
-        tally[i] = tally[i].wrapping_add(1);
-    }
-}
-
-// The larger of two costs.
-pub fn larger(largest: u32, cost: u32) -> u32 {
-    if largest < cost { cost } else { largest }
+    let lock = if locked { "locked" } else { "unlocked" };
+    let _ = eprintln!(rt; "bootloader FRAM: {lock}");
+    let _ = eprintln!(rt; "largest cost of a CRC: {}", tally.largest);
+    let _ = eprintln!(rt; "replies written on port 0: {}", sent.fends / 2);
+    let _ = eprintln!(rt; "bytes written on port 0: {}", sent.bytes);
+    let _ = eprintln!(rt; "replies left on port 1: {}", sent.left1);
 }
