@@ -153,8 +153,9 @@ pub fn hear(largest: u16, port: Port, byte: u8, message: &mut [u8]) -> Got
             }),
             heard: Heard::Empty,
         },
-        Port::Throwing(_) => Got {
-            port,
+        // Made again from its count: handed on whole, it kept this function out of its callers on a Cortex-M4, 140 instructions a call.
+        Port::Throwing(count) => Got {
+            port: Port::Throwing(count),
             heard: Heard::Taken,
         },
     }
