@@ -22,7 +22,7 @@ const LONGEST: usize = 2_068;
 pub struct Closed;
 
 // The file of port 1, if there is one; on which output bytes wait to be written, and from where to where; and what was sent.
-#[derive(Drop)]
+#[derive(Clone, Copy)]
 pub struct Flow {
     file1: Option<i32>,
     output: Output,
