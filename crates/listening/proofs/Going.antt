@@ -4,6 +4,7 @@ use mathlib.Core.Bool.{Bool, true, false, cond, not, ◌&&◌, false≢true}
 use mathlib.Core.List.{List, ◌∷◌}
 use Prim.Native.Nat.{ℕ, suc, ◌+◌, ◌-◌, ◌≤◌, ◌<◌}
 use native.Mathlib.Omega.{arith}
+use borrow.Author.Tests.{eq-eqb}
 use lib.Dec.{eqb}
 use lib.ListN.{length, get_or, drop}
 use lib.Seq.{drop-cons}
@@ -15,8 +16,14 @@ use Rattle.line.specs.declared.receiver.Heard.{Heard}
 use Rattle.line.specs.Receiver.{Reception, reception_of, receive_of, inside_of}
 use Rattle.ports.specs.declared.Port.{Port}
 use Rattle.ports.specs.declared.Port.TheVariants.{Hearing}
-use Rattle.ports.specs.Ports.{AfterByte, hearing, hear_of}
+use Rattle.ports.specs.Ports.{AfterByte, hearing, hear_of, is_open}
 use Rattle.listening.specs.Listening.{closes, Listening, listening, behind, listen_of}
+
+-- ---- what a byte closes
+
+-- a FEND closes just what is open
+pub a_fend_closes_what_is_open : (port : Port) (byte : ℕ) → byte ≡ fend → is_open port ≡ closes port byte
+a_fend_closes_what_is_open port byte is = simp (eq-eqb byte fend is)
 
 -- ---- bytes taken
 
