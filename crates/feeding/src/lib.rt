@@ -1,6 +1,9 @@
 // The unit's memory, lent to it for each call.
 #![tactic(auto)]
 
+ghost use Rattle.std.specs.Prelude.{◌≡◌, take};
+ghost use Rattle.ports.specs.Sides.{both, of_side};
+
 use ports::{Both, Side, sent_by};
 use unit::{Stepped, Unit};
 use words::arguments::Arguments;
@@ -92,7 +95,9 @@ impl Memory {
     }
 
     // The reply of so many bytes that left on a port.
-    pub fn reply(&self, side: Side, sent: usize) -> &[u8] {
+    pub fn reply(&self, side: Side, sent: usize) -> &[u8]
+        ensures { result.now ≡ take sent (of_side side (both self.now.reply0 self.now.reply1)) }
+    {
         sent_by(side, sent, &self.reply0, &self.reply1)
     }
 }
